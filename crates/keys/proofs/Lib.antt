@@ -1,0 +1,2 @@
+pub mod SameVehicle
+pub mod VehicleDigits

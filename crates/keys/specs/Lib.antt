@@ -1,0 +1,4 @@
+pub mod Orders
+pub mod Refusals
+pub mod VehicleDigits
+pub mod Vehicles

@@ -1,0 +1,46 @@
+// Vehicle keys from two numbers: the one way to make a key, which refuses numbers that no text gives.
+ghost use Rattle.keys.specs.VehicleDigits.{spelled, vehicle-digit, vehicle-digits};
+ghost use Rattle.keys.specs.Vehicles.{numbers};
+ghost use Rattle.std.specs.Options.{mapped};
+ghost use Rattle.std.specs.declared.option.Option.the-variants.{Some, None};
+ghost use mathlib.Core.Bool.{cond};
+ghost use mathlib.Core.Path.{_≡_};
+use crate::vehicle::VehicleKey;
+
+// The base in which vehicle characters count.
+const BASE: u64 = 36;
+
+// Characters that stand for the first and for the second number.
+const FIRST_CHARACTERS: u32 = 9;
+
+const SECOND_CHARACTERS: u32 = 8;
+
+impl VehicleKey {
+    // The key with these two numbers; none where no text gives them.
+    pub fn from_numbers(first: u64, second: u64) -> Option<VehicleKey>
+        ensures answer { λ r. ⌜ mapped numbers r ≡ cond (spelled first second) (Some (first, second)) None ⌝ }
+    {
+        if is_spelled(first, FIRST_CHARACTERS) && is_spelled(second, SECOND_CHARACTERS) {
+            Some(VehicleKey { first, second })
+        } else {
+            None
+        }
+    }
+}
+
+// Whether so many vehicle characters can write the number.
+fn is_spelled(number: u64, characters: u32) -> bool
+    ensures answer { λ r. ⌜ r ≡ vehicle-digits characters number ⌝ }
+{
+    if characters == 0 {
+        return number == 0;
+    }
+    is_vehicle_digit(number % BASE) && is_spelled(number / BASE, characters - 1)
+}
+
+// Whether the digit is one of a vehicle character: those of I, O and Q are not.
+fn is_vehicle_digit(digit: u64) -> bool
+    ensures answer { λ r. ⌜ r ≡ vehicle-digit digit ⌝ }
+{
+    !matches!(digit, 18 | 24 | 26)
+}
