@@ -1,0 +1,6 @@
+pub mod Refusals
+pub mod Digits
+pub mod Decimals
+pub mod Codes
+pub mod Fields
+pub mod Records

@@ -1,0 +1,79 @@
+-- Records as text: their fields in decimal, each parted from the next by one space (byte 32).
+use Prim.Native.Nat.{ℕ, _+_, _-_, _≤_}
+use mathlib.Core.Bool.{cond, _&&_}
+use mathlib.Core.List.{List, _∷_, _++_}
+use lib.Dec.{eqb, ltb}
+use lib.IntN.{ℤ, pos, _-ℤ_}
+use lib.ListN.{length, getD, drop}
+use Rattle.std.specs.Options.{mapped}
+use Rattle.std.specs.Written.{decimal, signed}
+use Rattle.std.specs.declared.option.Option.{Option}
+use Rattle.std.specs.declared.option.Option.the-variants.{Some, None}
+use Rattle.text.specs.Decimals.{decimal-of}
+use Rattle.text.specs.Fields.{first-field, later-fields}
+use Rattle.text.specs.declared.record.Coolant.{Coolant}
+use Rattle.text.specs.declared.record.FaultRecord.{FaultRecord}
+use Rattle.text.specs.declared.record.VehicleRecord.{VehicleRecord}
+
+-- a coolant temperature in degrees Celsius
+abbrev pub celsius : Coolant → ℤ
+celsius coolant = pos (coolant .raw) -ℤ pos 40
+
+-- its text: the degrees in decimal, with a minus sign below zero
+unfoldable pub coolant-text : Coolant → List ℕ
+coolant-text coolant = signed (celsius coolant)
+
+-- so many degrees below zero; -0 is none
+abbrev pub below-zero : Option ℕ → Option Coolant
+below-zero None = None
+below-zero (Some n) = cond (eqb n 0) None (Some (record { raw = 40 - n }))
+
+-- so many degrees from zero up
+abbrev pub from-zero : Option ℕ → Option Coolant
+from-zero None = None
+from-zero (Some n) = Some (record { raw = 40 + n })
+
+-- the temperature that a text stands for, from -40 to 215; byte 45 is the minus sign
+unfoldable pub coolant-of : List ℕ → Option Coolant
+coolant-of s =
+    cond (ltb 0 (length s) && eqb (getD s 0 0) 45) (below-zero (decimal-of 40 (drop 1 s))) (from-zero (decimal-of 215 s))
+
+abbrev pub fault-with : Option ℕ → Option ℕ → Option ℕ → Option Coolant → Option FaultRecord
+fault-with None occurrences speed coolant = None
+fault-with (Some status) None speed coolant = None
+fault-with (Some status) (Some occurrences) None coolant = None
+fault-with (Some status) (Some occurrences) (Some speed) None = None
+fault-with (Some status) (Some occurrences) (Some speed) (Some coolant) =
+    Some (record { status = status; occurrences = occurrences; «engine_speed» = speed; coolant = coolant })
+
+-- the fault record that a text stands for
+unfoldable pub fault-of : List ℕ → Option FaultRecord
+fault-of s =
+    fault-with (decimal-of 255 (first-field s)) (decimal-of 65535 (first-field (later-fields s)))
+    (decimal-of 65535 (first-field (later-fields (later-fields s)))) (coolant-of (later-fields (later-fields (later-fields s))))
+
+-- the text of a fault record
+unfoldable pub fault-text : FaultRecord → List ℕ
+fault-text f =
+    decimal (f .status) ++ 32 ∷ (decimal (f .occurrences) ++ 32 ∷ (decimal (f .«engine_speed») ++ 32 ∷ coolant-text (f .coolant)))
+
+-- the ranges of a fault record's numbers, which every fault record of a program keeps
+abbrev pub Fault-fits : FaultRecord → Type 0
+Fault-fits f = (f .status ≤ 255) × (f .occurrences ≤ 65535) × (f .«engine_speed» ≤ 65535) × (f .coolant .raw ≤ 255)
+
+abbrev pub vehicle-record-with : Option ℕ → Option ℕ → Option VehicleRecord
+vehicle-record-with None order = None
+vehicle-record-with (Some kilometres) None = None
+vehicle-record-with (Some kilometres) (Some order) = Some (record { kilometres = kilometres; «work_order» = order })
+
+-- the vehicle record that a text stands for
+unfoldable pub vehicle-record-of : List ℕ → Option VehicleRecord
+vehicle-record-of s = vehicle-record-with (decimal-of 4294967295 (first-field s)) (decimal-of 4294967295 (later-fields s))
+
+-- the text of a vehicle record
+unfoldable pub vehicle-record-text : VehicleRecord → List ℕ
+vehicle-record-text v = decimal (v .kilometres) ++ 32 ∷ decimal (v .«work_order»)
+
+-- the ranges of a vehicle record's numbers, which every vehicle record of a program keeps
+abbrev pub Vehicle-record-fits : VehicleRecord → Type 0
+Vehicle-record-fits v = (v .kilometres ≤ 4294967295) × (v .«work_order» ≤ 4294967295)

@@ -1,0 +1,72 @@
+// Trouble codes and code keys as text.
+// A code text is a letter, a digit from 0 to 3 and three hexadecimal digits in capitals; a code key's is four such digits for the unit, a colon and the code text.
+ghost use Prim.Native.Nat.{_<_};
+ghost use Rattle.std.specs.Slices.{found};
+ghost use Rattle.text.specs.Codes.{code-key-of, code-key-text, code-key-with, code-of, code-text, letter-of, letter-value};
+ghost use mathlib.Core.Path.{_≡_};
+use crate::digits::number;
+use keys::CodeKey;
+
+const SIXTEEN: u64 = 16;
+
+// Characters of a code text, and of a code key's.
+const CODE_LENGTH: usize = 5;
+const CODE_KEY_LENGTH: usize = 10;
+
+// What parts unit and code in a code key's text, and where it stands.
+const COLON: u8 = b':';
+const COLON_PLACE: usize = 4;
+
+// A code's top two bits, which its letter stands for, count so many times its other fourteen.
+const TOP_BITS: u16 = 0x4000;
+
+// What a letter stands for in the top two bits.
+fn letter_value(b: u8) -> Option<u16>
+    ensures answer { λ r. ⌜ r ≡ letter-value b ⌝ }
+    ensures range { λ r. ⌜ found r (λ n. n < 4) ⌝ }
+{
+    match b as char {
+        'P' => Some(0),
+        'C' => Some(1),
+        'B' => Some(2),
+        'U' => Some(3),
+        _ => None,
+    }
+}
+
+// The letter that stands for the top two bits.
+fn letter_of(n: u16) -> u8
+    ensures answer { λ r. ⌜ r ≡ letter-of n ⌝ }
+{
+    let letter = match n {
+        0 => 'P',
+        1 => 'C',
+        2 => 'B',
+        _ => 'U',
+    };
+    letter as u8
+}
+
+// The code that a text stands for, or none.
+pub fn code_of(s: &[u8]) -> Option<u16>
+    ensures answer { λ r. ⌜ r ≡ code-of (now (s .entry)) ⌝ }
+{
+    if s.len() != CODE_LENGTH {
+        return None;
+    }
+    let top = letter_value(s[0])?;
+    let low = number(&s[1..], SIXTEEN, (TOP_BITS - 1) as u64)?;
+    Some(top * TOP_BITS + low as u16)
+}
+
+// The code key that a text stands for, or none.
+pub fn code_key_of(s: &[u8]) -> Option<CodeKey>
+    ensures answer { λ r. ⌜ r ≡ code-key-of (now (s .entry)) ⌝ }
+{
+    if s.len() != CODE_KEY_LENGTH || s[COLON_PLACE] != COLON {
+        return None;
+    }
+    let unit = number(&s[0..COLON_PLACE], SIXTEEN, u16::MAX as u64)?;
+    let code = code_of(&s[COLON_PLACE + 1..])?;
+    Some(CodeKey { unit: unit as u16, code })
+}
