@@ -1,3 +1,10 @@
 pub mod Table
 pub mod Reading
 pub mod Spaces
+pub mod NumberTexts
+pub mod CodeTexts
+pub mod DecimalTexts
+pub mod FieldTexts
+pub mod RecordTexts
+pub mod Writing
+pub mod Appends

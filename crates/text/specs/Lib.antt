@@ -4,3 +4,4 @@ pub mod Decimals
 pub mod Codes
 pub mod Fields
 pub mod Records
+pub mod Appending

@@ -2,19 +2,23 @@
 // A code text is a letter, a digit from 0 to 3 and three hexadecimal digits in capitals; a code key's is four such digits for the unit, a colon and the code text.
 ghost use Prim.Native.Nat.{_<_};
 ghost use Rattle.std.specs.Slices.{found};
+ghost use Rattle.text.specs.Digits.{last-digits};
 ghost use Rattle.text.specs.Codes.{code-key-of, code-key-text, code-key-with, code-of, code-text, letter-of, letter-value};
 ghost use mathlib.Core.Path.{_≡_};
 use crate::digits::number;
+use crate::digits::write_digits;
 use keys::CodeKey;
 
 const SIXTEEN: u64 = 16;
 
 // Characters of a code text, and of a code key's.
 const CODE_LENGTH: usize = 5;
+
 const CODE_KEY_LENGTH: usize = 10;
 
 // What parts unit and code in a code key's text, and where it stands.
 const COLON: u8 = b':';
+
 const COLON_PLACE: usize = 4;
 
 // A code's top two bits, which its letter stands for, count so many times its other fourteen.
@@ -68,5 +72,34 @@ pub fn code_key_of(s: &[u8]) -> Option<CodeKey>
     }
     let unit = number(&s[0..COLON_PLACE], SIXTEEN, u16::MAX as u64)?;
     let code = code_of(&s[COLON_PLACE + 1..])?;
-    Some(CodeKey { unit: unit as u16, code })
+    Some(CodeKey {
+        unit: unit as u16,
+        code,
+    })
+}
+
+// The four hexadecimal digits of a number.
+fn hex_digits(n: u16) -> [u8; 4]
+    ensures answer { λ r. ⌜ r ≡ last-digits 16 4 n ⌝ }
+{
+    let mut digits = [0; 4];
+    write_digits(&mut digits, SIXTEEN, n as u64);
+    digits
+}
+
+// The text of a code.
+pub fn write_code(code: u16) -> [u8; 5]
+    ensures answer { λ r. ⌜ r ≡ code-text code ⌝ }
+{
+    let [a, b, c, d] = hex_digits(code % TOP_BITS);
+    [letter_of(code / TOP_BITS), a, b, c, d]
+}
+
+// The text of a code key.
+pub fn write_code_key(key: CodeKey) -> [u8; 10]
+    ensures answer { λ r. ⌜ r ≡ code-key-text key ⌝ }
+{
+    let [a, b, c, d] = hex_digits(key.unit);
+    let [l, e, f, g, h] = write_code(key.code);
+    [a, b, c, d, COLON, l, e, f, g, h]
 }

@@ -57,3 +57,29 @@ pub(crate) fn number(s: &[u8], base: u64, limit: u64) -> Option<u64>
     }
     Some(n)
 }
+
+// The byte that stands for a digit.
+fn digit_byte(d: u64) -> u8
+    requires { ⌜ d < 36 ⌝ }
+    ensures answer { λ r. ⌜ r ≡ digit-byte d ⌝ }
+{
+    if d < 10 {
+        b'0' + d as u8
+    } else {
+        b'A' + (d - 10) as u8
+    }
+}
+
+// Fills the bytes with the last digits of a number in a base.
+pub(crate) fn write_digits(out: &mut [u8], base: u64, number: u64)
+    requires { ⌜ 0 < base ⌝ ∗ ⌜ base ≤ 36 ⌝ }
+    ensures after { λ _. ⌜ now (out .exit) ≡ last-digits base (length (now (out .entry))) number ⌝ }
+{
+    let mut n = number;
+    let mut i = out.len();
+    while i > 0 {
+        i -= 1;
+        out[i] = digit_byte(n % base);
+        n /= base;
+    }
+}

@@ -4,9 +4,9 @@ ghost use Rattle.text.specs.Decimals.{decimal-of};
 ghost use Rattle.text.specs.Records.{below-zero, coolant-of, fault-of, from-zero, vehicle-record-of};
 ghost use mathlib.Core.Path.{_≡_};
 use crate::decimal::decimal;
+use crate::decimal::decimal_u8;
 use crate::decimal::decimal_u16;
 use crate::decimal::decimal_u32;
-use crate::decimal::decimal_u8;
 use crate::field::split_field;
 
 // A coolant temperature from -40 to 215 degrees Celsius, in one byte as a control unit sends it.
@@ -35,7 +35,8 @@ pub struct VehicleRecord {
 }
 
 // The raw value of zero degrees, and the highest temperature in degrees.
-const ZERO: u8 = 40;
+pub(crate) const ZERO: u8 = 40;
+
 const HIGHEST: u64 = 215;
 
 fn below_zero(s: &[u8]) -> Option<Coolant>
@@ -45,14 +46,18 @@ fn below_zero(s: &[u8]) -> Option<Coolant>
     if degrees == 0 {
         return None;
     }
-    Some(Coolant { raw: ZERO - degrees as u8 })
+    Some(Coolant {
+        raw: ZERO - degrees as u8,
+    })
 }
 
 fn from_zero(s: &[u8]) -> Option<Coolant>
     ensures answer { λ r. ⌜ r ≡ from-zero (decimal-of 215 (now (s .entry))) ⌝ }
 {
     let degrees = decimal(s, HIGHEST)?;
-    Some(Coolant { raw: ZERO + degrees as u8 })
+    Some(Coolant {
+        raw: ZERO + degrees as u8,
+    })
 }
 
 // The temperature that a text stands for, or none.
