@@ -5,6 +5,6 @@ pub mod NumberTexts
 pub mod CodeTexts
 pub mod DecimalTexts
 pub mod FieldTexts
+pub mod CoolantTexts
 pub mod RecordTexts
 pub mod Writing
-pub mod Appends

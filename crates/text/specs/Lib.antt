@@ -3,5 +3,5 @@ pub mod Digits
 pub mod Decimals
 pub mod Codes
 pub mod Fields
+pub mod Coolants
 pub mod Records
-pub mod Appending

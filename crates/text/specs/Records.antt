@@ -1,42 +1,15 @@
 -- Records as text: their fields in decimal, each parted from the next by one space (byte 32).
-use Prim.Native.Nat.{ℕ, _+_, _-_, _≤_}
-use mathlib.Core.Bool.{cond, _&&_}
+use Prim.Native.Nat.{ℕ, _≤_}
 use mathlib.Core.List.{List, _∷_, _++_}
-use lib.Dec.{eqb, ltb}
-use lib.IntN.{ℤ, pos, _-ℤ_}
-use lib.ListN.{length, getD, drop}
-use Rattle.std.specs.Options.{mapped}
-use Rattle.std.specs.Written.{decimal, signed}
+use Rattle.std.specs.Written.{decimal}
 use Rattle.std.specs.declared.option.Option.{Option}
 use Rattle.std.specs.declared.option.Option.the-variants.{Some, None}
+use Rattle.text.specs.Coolants.{coolant-of, coolant-text}
 use Rattle.text.specs.Decimals.{decimal-of}
 use Rattle.text.specs.Fields.{first-field, later-fields}
-use Rattle.text.specs.declared.record.Coolant.{Coolant}
+use Rattle.text.specs.declared.coolant.Coolant.{Coolant}
 use Rattle.text.specs.declared.record.FaultRecord.{FaultRecord}
 use Rattle.text.specs.declared.record.VehicleRecord.{VehicleRecord}
-
--- a coolant temperature in degrees Celsius
-abbrev pub celsius : Coolant → ℤ
-celsius coolant = pos (coolant .raw) -ℤ pos 40
-
--- its text: the degrees in decimal, with a minus sign below zero
-unfoldable pub coolant-text : Coolant → List ℕ
-coolant-text coolant = signed (celsius coolant)
-
--- so many degrees below zero; -0 is none
-abbrev pub below-zero : Option ℕ → Option Coolant
-below-zero None = None
-below-zero (Some n) = cond (eqb n 0) None (Some (record { raw = 40 - n }))
-
--- so many degrees from zero up
-abbrev pub from-zero : Option ℕ → Option Coolant
-from-zero None = None
-from-zero (Some n) = Some (record { raw = 40 + n })
-
--- the temperature that a text stands for, from -40 to 215; byte 45 is the minus sign
-unfoldable pub coolant-of : List ℕ → Option Coolant
-coolant-of s =
-    cond (ltb 0 (length s) && eqb (getD s 0 0) 45) (below-zero (decimal-of 40 (drop 1 s))) (from-zero (decimal-of 215 s))
 
 abbrev pub fault-with : Option ℕ → Option ℕ → Option ℕ → Option Coolant → Option FaultRecord
 fault-with None occurrences speed coolant = None

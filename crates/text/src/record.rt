@@ -1,20 +1,16 @@
-// Records of the fault book and of the vehicle book, and their texts.
-// The types keep the ranges: a record outside them cannot be made.
-ghost use Rattle.text.specs.Decimals.{decimal-of};
-ghost use Rattle.text.specs.Records.{below-zero, coolant-of, fault-of, from-zero, vehicle-record-of};
+// Records of the fault book and of the vehicle book.
+// The types keep the ranges: a record outside them cannot be made. Their texts are their fields in decimal, parted by one space.
+ghost use Rattle.std.specs.declared.option.Option.the-variants.{Some};
+ghost use Rattle.text.specs.Records.{fault-of, fault-text, vehicle-record-of, vehicle-record-text};
 ghost use mathlib.Core.Path.{_≡_};
-use crate::decimal::decimal;
+use crate::coolant::Coolant;
+use crate::coolant::CoolantDisplay;
+use crate::coolant::coolant_of;
 use crate::decimal::decimal_u8;
 use crate::decimal::decimal_u16;
 use crate::decimal::decimal_u32;
 use crate::field::split_field;
-
-// A coolant temperature from -40 to 215 degrees Celsius, in one byte as a control unit sends it.
-#[derive(Clone, Copy)]
-pub struct Coolant {
-    // degrees above -40
-    pub raw: u8,
-}
+use std::fmt;
 
 // What a control unit recorded with a trouble code.
 #[derive(Clone, Copy)]
@@ -34,40 +30,29 @@ pub struct VehicleRecord {
     pub work_order: u32,
 }
 
-// The raw value of zero degrees, and the highest temperature in degrees.
-pub(crate) const ZERO: u8 = 40;
+pub impl fmt::Display for FaultRecord as FaultRecordDisplay {
+    ghost shown = { λ f. Some (fault-text f) };
 
-const HIGHEST: u64 = 215;
-
-fn below_zero(s: &[u8]) -> Option<Coolant>
-    ensures answer { λ r. ⌜ r ≡ below-zero (decimal-of 40 (now (s .entry))) ⌝ }
-{
-    let degrees = decimal(s, ZERO as u64)?;
-    if degrees == 0 {
-        return None;
+    fn fmt<W: fmt::Write>(&self, f: &mut fmt::Formatter<W>) -> fmt::Result {
+        let FaultRecord {
+            status,
+            occurrences,
+            engine_speed,
+            coolant,
+        } = *self;
+        write!(f, "{status} {occurrences} {engine_speed} {coolant}")
     }
-    Some(Coolant {
-        raw: ZERO - degrees as u8,
-    })
 }
 
-fn from_zero(s: &[u8]) -> Option<Coolant>
-    ensures answer { λ r. ⌜ r ≡ from-zero (decimal-of 215 (now (s .entry))) ⌝ }
-{
-    let degrees = decimal(s, HIGHEST)?;
-    Some(Coolant {
-        raw: ZERO + degrees as u8,
-    })
-}
+pub impl fmt::Display for VehicleRecord as VehicleRecordDisplay {
+    ghost shown = { λ v. Some (vehicle-record-text v) };
 
-// The temperature that a text stands for, or none.
-pub(crate) fn coolant_of(s: &[u8]) -> Option<Coolant>
-    ensures answer { λ r. ⌜ r ≡ coolant-of (now (s .entry)) ⌝ }
-{
-    if s.len() > 0 && s[0] == b'-' {
-        below_zero(&s[1..])
-    } else {
-        from_zero(s)
+    fn fmt<W: fmt::Write>(&self, f: &mut fmt::Formatter<W>) -> fmt::Result {
+        let VehicleRecord {
+            kilometres,
+            work_order,
+        } = *self;
+        write!(f, "{kilometres} {work_order}")
     }
 }
 

@@ -2,8 +2,8 @@ use borrow.Author.Needs.{needs}
 use lib.ListN.{length, getD}
 use Rattle.std.proofs.shelf.Lists.{take-rest}
 use Rattle.std.proofs.shelf.Tests.{lt-ltb, eq-eqb}
-use Rattle.text.specs.Records.{coolant-of}
-use Rattle.text.proofs.record.coolant_of.Needs as need
+use Rattle.text.specs.Coolants.{coolant-of}
+use Rattle.text.proofs.coolant.coolant_of.Needs as need
 
 pub returns-then-s-eq45 : need.returns-then-s-eq45
 unfolding coolant-of
