@@ -17,7 +17,7 @@ use Rattle.text.specs.Codes.{letter-value, letter-of, code-with, code-of, code
 use Rattle.text.specs.Digits.{digit-byte, number-of, at-most, last-digits}
 use Rattle.text.specs.Fields.{one-field}
 use Rattle.text.proofs.FieldTexts.{one-field-append}
-use Rattle.text.proofs.NumberTexts.{hex-back, length-last-digits, none-some, own-digits, some-if}
+use Rattle.text.proofs.NumberTexts.{digits-bound, hex-back, length-last-digits, none-some, own-digits, some-if, within-limit}
 use Rattle.text.proofs.Reading.{at-most-is, at-most-parts}
 use Rattle.text.proofs.Writing.{byte-by-byte, listed}
 
@@ -26,15 +26,6 @@ letter-back n h = grind (arith, tells)
 
 own-letter : (b n : ℕ) → letter-value b ≡ Some n → (n < 4) × (letter-of n ≡ b)
 own-letter b n e = grind (arith, tells)
-
--- hexadecimal digits, so many, up to a limit
-hex-read : (count limit : ℕ) (s : List ℕ) (v : ℕ) → length s ≡ count → at-most limit (number-of 16 s) ≡ Some v → (v ≤ limit) × (last-digits 16 count v ≡ s)
-hex-read count limit s v h e =
-    let p = at-most-parts limit _ v e in
-    (p .1, own-digits 16 count s v (omega arith) h (p .0))
-
-hex-written : (limit v : ℕ) → v ≤ limit → v < 65536 → at-most limit (number-of 16 (last-digits 16 4 v)) ≡ Some v
-hex-written limit v h g = ap (at-most limit) (hex-back 4 v g) ∙ at-most-is limit v h
 
 code-parts : (o p : Option ℕ) (v : ℕ) → code-with o p ≡ Some v → (top : ℕ) × (low : ℕ) × (o ≡ Some top) × (p ≡ Some low) × (v ≡ top * 0x4000 + low)
 code-parts None p v e = absurd (none-some v e)
@@ -47,7 +38,7 @@ unfolding code-of code-text
 code-back v h =
     let t = eq-eqb (length (letter-of (v / 0x4000) ∷ last-digits 16 4 (v % 0x4000))) 5 (omega (arith, length-last-digits 16 4 (v % 0x4000))) in
     let l = letter-back (v / 0x4000) (omega arith) in
-    let d = hex-written 0x3FFF (v % 0x4000) (omega arith) (omega arith) in
+    let d = ap (at-most 0x3FFF) (hex-back 4 (v % 0x4000) (omega arith)) ∙ at-most-is 0x3FFF (v % 0x4000) (omega arith) in
     simp t (simp (l, d) (ap Some (omega arith)))
 
 -- a text that reads as a code is the code's own
@@ -58,10 +49,15 @@ code-forth s v e =
     let n = eqb-true (length s) 5 (p .0) in
     let q = code-parts _ _ v (p .1) in
     let l = own-letter (getD s 0 0) (q .0) (q .2) in
-    let d = hex-read 4 0x3FFF (drop 1 s) (q .1) (length-drop 1 s ∙ omega arith) (q .3) in
+    let low = at-most-parts 0x3FFF _ (q .1) (q .3) in
+    let d = own-digits 16 (omega arith) 4 (drop 1 s) (q .1) (length-drop 1 s ∙ omega arith) (low .0) in
     let f : v / 0x4000 ≡ q .0 = omega arith in
     let g : v % 0x4000 ≡ q .1 = omega arith in
-    (omega arith, rw (f, g, d .1, l .1) (sym (drop-more s 0 0 (omega arith))))
+    (omega arith, rw (f, g, d, l .1) (sym (drop-more s 0 0 (omega arith))))
+
+-- four digits never pass the limit at which a unit is read
+pub unit-read : (s : List ℕ) (o : Option ℕ) → length s ≡ 10 → o ≡ at-most 0xFFFF (number-of 16 (take 4 s)) → o ≡ number-of 16 (take 4 s)
+unit-read s o h e = e ∙ within-limit 16 4 0xFFFF (take 4 s) _ (length-take 4 s ∙ omega arith) (omega arith) refl
 
 key-parts : (o p : Option ℕ) (key : CodeKey) → code-key-with o p ≡ Some key → (o ≡ Some (key .unit)) × (p ≡ Some (key .code))
 key-parts None p key e = absurd (none-some key e)
@@ -84,7 +80,7 @@ code-key-back key fits =
     let long : length (unit ++ 58 ∷ code) ≡ 10 = length-append unit (58 ∷ code) ∙ omega (arith, length-code-text (key .code)) in
     let colon = getD-at unit 58 code 0 4 n in
     let t = and-from _ _ (eq-eqb _ 10 long) (eq-eqb _ 58 colon) in
-    let a = ap (λ x. at-most 0xFFFF (number-of 16 x)) (take-at unit (58 ∷ code) 4 n) ∙ hex-written 0xFFFF (key .unit) (omega arith) (fits .0) in
+    let a = ap (number-of 16) (take-at unit (58 ∷ code) 4 n) ∙ hex-back 4 (key .unit) (fits .0) in
     let past = drop-at (unit ++ (58 ∷ [])) code 5 (length-append unit (58 ∷ []) ∙ omega arith) in
     let b = ap (λ x. code-of (drop 5 x)) (sym (append-assoc unit (58 ∷ []) code)) ∙ ap code-of past ∙ code-back (key .code) (fits .1) in
     simp t (simp (a, b))
@@ -98,9 +94,11 @@ code-key-forth s key e =
     let n = eqb-true (length s) 10 (t .0) in
     let colon = eqb-true (getD s 4 0) 58 (t .1) in
     let q = key-parts _ _ key (p .1) in
-    let u = hex-read 4 0xFFFF (take 4 s) (key .unit) (length-take 4 s ∙ omega arith) (q .0) in
+    let short : length (take 4 s) ≡ 4 = length-take 4 s ∙ omega arith in
+    let u = own-digits 16 (omega arith) 4 (take 4 s) (key .unit) short (q .0) in
+    let b = digits-bound 16 4 (take 4 s) (key .unit) short (q .0) in
     let c = code-forth (drop 5 s) (key .code) (q .1) in
-    ((omega arith, c .0), rw (u .1, c .1) (ap (λ x. take 4 s ++ x ∷ drop 5 s) (sym colon) ∙ ap (λ xs. take 4 s ++ xs) (sym (drop-more s 4 0 (omega arith))) ∙ take-append-drop 4 s))
+    ((b, c .0), rw (u, c .1) (ap (λ x. take 4 s ++ x ∷ drop 5 s) (sym colon) ∙ ap (λ xs. take 4 s ++ xs) (sym (drop-more s 4 0 (omega arith))) ∙ take-append-drop 4 s))
 
 -- texts put together from the bytes of their parts
 pub code-written : (code letter : ℕ) (digits : List ℕ) → letter ≡ letter-of (code / 0x4000) → digits ≡ last-digits 16 4 (code % 0x4000) →

@@ -43,7 +43,7 @@ code-key-with (Some unit) (Some code) = Some (record { unit = unit; code = code 
 unfoldable pub code-key-of : List ℕ → Option CodeKey
 code-key-of s =
     cond (eqb (length s) 10 && eqb (getD s 4 0) 58)
-    (code-key-with (at-most 0xFFFF (number-of 16 (take 4 s))) (code-of (drop 5 s))) None
+    (code-key-with (number-of 16 (take 4 s)) (code-of (drop 5 s))) None
 
 -- the text of a code key
 unfoldable pub code-key-text : CodeKey → List ℕ

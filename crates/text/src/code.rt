@@ -52,7 +52,7 @@ fn letter_of(n: u16) -> u8
 }
 
 // The code that a text stands for, or none.
-pub fn code_of(s: &[u8]) -> Option<u16>
+pub(crate) fn code_of(s: &[u8]) -> Option<u16>
     ensures answer { λ r. ⌜ r ≡ code-of (now (s .entry)) ⌝ }
 {
     if s.len() != CODE_LENGTH {

@@ -19,14 +19,14 @@ pub(crate) fn decimal(s: &[u8], limit: u64) -> Option<u64>
 }
 
 // The number that a text stands for, where it has 8 bits.
-pub fn decimal_u8(s: &[u8]) -> Option<u8>
+pub(crate) fn decimal_u8(s: &[u8]) -> Option<u8>
     ensures answer { λ r. ⌜ r ≡ decimal-of 255 (now (s .entry)) ⌝ }
 {
     Some(decimal(s, u8::MAX as u64)? as u8)
 }
 
 // The number that a text stands for, where it has 16 bits.
-pub fn decimal_u16(s: &[u8]) -> Option<u16>
+pub(crate) fn decimal_u16(s: &[u8]) -> Option<u16>
     ensures answer { λ r. ⌜ r ≡ decimal-of 65535 (now (s .entry)) ⌝ }
 {
     Some(decimal(s, u16::MAX as u64)? as u16)

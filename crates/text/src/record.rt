@@ -72,7 +72,7 @@ pub fn fault_of(s: &[u8]) -> Option<FaultRecord>
 }
 
 // The vehicle record that a text stands for, or none.
-pub fn vehicle_record_of(s: &[u8]) -> Option<VehicleRecord>
+pub(crate) fn vehicle_record_of(s: &[u8]) -> Option<VehicleRecord>
     ensures answer { λ r. ⌜ r ≡ vehicle-record-of (now (s .entry)) ⌝ }
 {
     let (kilometres, work_order) = split_field(s);

@@ -3,6 +3,7 @@ use mathlib.Core.Path.{sym}
 use Rattle.std.proofs.shelf.Tests.{and-left, and-right, cond-false, ne-eqb}
 use Rattle.std.proofs.shelf.Lists.{take-rest}
 use Rattle.text.specs.Codes.{code-key-of}
+use Rattle.text.proofs.CodeTexts.{unit-read}
 use Rattle.text.proofs.code.code_key_of.Needs as need
 use Rattle.text.proofs.code.code_key_of.Needs.{then-s-ne-CODE-KEY-LENGTH·by·then-s-ne-CODE-KEY-LENGTH as no-length}
 use Rattle.text.proofs.code.code_key_of.Needs.{then-s-ne-CODE-KEY-LENGTH·by·else-s-ne-CODE-KEY-LENGTH·then-s-ne-COLON as no-colon}
@@ -17,12 +18,18 @@ returns-then-s-ne-CODE-KEY-LENGTH c =
 
 pub returns-in-Break-unit : need.returns-in-Break-unit
 unfolding code-key-of
-returns-in-Break-unit c = search needs
+returns-in-Break-unit c =
+    let unit = unit-read (c .args .s .now) _ (c .if-s-ne-CODE-KEY-LENGTH .left) (c .number .ensures .answer) in
+    search needs
 
 pub returns-in-Break-code : need.returns-in-Break-code
 unfolding code-key-of
-returns-in-Break-code c = search (needs, take-rest (c .args .s .now) 5)
+returns-in-Break-code c =
+    let unit = unit-read (c .args .s .now) _ (c .if-s-ne-CODE-KEY-LENGTH .left) (c .number .ensures .answer) in
+    search (needs, take-rest (c .args .s .now) 5)
 
 pub returns : need.returns
 unfolding code-key-of
-returns c = search (needs, take-rest (c .args .s .now) 5)
+returns c =
+    let unit = unit-read (c .args .s .now) _ (c .if-s-ne-CODE-KEY-LENGTH .left) (c .number .ensures .answer) in
+    search (needs, take-rest (c .args .s .now) 5)
