@@ -1,7 +1,7 @@
 -- Codes and code keys as text: what is read is the value's own text, and the text of every value reads back.
 -- The letter and the hexadecimal digits are each read back by themselves; a code is put together from its top two bits and its other fourteen.
-use Prim.Native.Nat.{ℕ, zero, suc, _+_, _-_, _*_, _/_, _%_, _<_, _≤_}
-use mathlib.Core.Bool.{Bool, true, false, cond, _&&_, not}
+use Prim.Native.Nat.{ℕ, zero, suc, _+_, _-_, _*_, _/_, _%_, _<_}
+use mathlib.Core.Bool.{true, _&&_, not}
 use mathlib.Core.List.{List, [], _∷_, _++_, append-assoc}
 use mathlib.Core.Path.{_≡_, refl, sym, ap, _∙_}
 use native.Mathlib.Omega.{arith}
@@ -93,7 +93,7 @@ code-key-forth s key e =
     let t = and-parts _ _ (p .0) in
     let n = eqb-true (length s) 10 (t .0) in
     let colon = eqb-true (getD s 4 0) 58 (t .1) in
-    let q = key-parts _ _ key (p .1) in
+    let q = key-parts (number-of 16 (take 4 s)) (code-of (drop 5 s)) key (p .1) in
     let short : length (take 4 s) ≡ 4 = length-take 4 s ∙ omega arith in
     let u = own-digits 16 (omega arith) 4 (take 4 s) (key .unit) short (q .0) in
     let b = digits-bound 16 4 (take 4 s) (key .unit) short (q .0) in

@@ -1,6 +1,6 @@
 -- Coolant temperatures as text: what is read is the temperature's own text, and the text of every temperature reads back.
 -- A text has one of two kinds, with and without a minus sign.
-use Prim.Native.Nat.{ℕ, suc, _+_, _-_, _<_, _≤_}
+use Prim.Native.Nat.{ℕ, _+_, _-_, _<_, _≤_}
 use mathlib.Core.Bool.{Bool, true, false, cond, _&&_}
 use mathlib.Core.List.{List, [], _∷_}
 use mathlib.Core.Logic.{_⊎_, inl, inr}

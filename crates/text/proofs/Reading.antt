@@ -1,7 +1,7 @@
 -- A number that is read digit by digit, and given up as soon as it passes the limit.
 -- The loop keeps the number of the digits so far, so that the digits that are left complete it to the number of the whole text;
 -- once past the limit, or at a byte that is no digit, no more digits bring the number back.
-use Prim.Native.Nat.{ℕ, _+_, _*_, _<_, _≤_}
+use Prim.Native.Nat.{ℕ, _+_, _<_, _≤_}
 use mathlib.Core.Path.{_≡_, refl, sym, ap, _∙_}
 use mathlib.Core.List.{List, [], _∷_}
 use native.Mathlib.Omega.{arith}

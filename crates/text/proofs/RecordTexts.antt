@@ -70,7 +70,7 @@ vehicle-record-parts (Some x) (Some y) v e =
 
 -- a text that reads as a vehicle record is the record's own
 pub vehicle-record-forth : (s : List ℕ) (v : VehicleRecord) → vehicle-record-of s ≡ Some v → Vehicle-record-fits v × (vehicle-record-text v ≡ s)
-unfolding vehicle-record-of vehicle-record-text
+unfolding vehicle-record-of
 vehicle-record-forth s v e =
     let p = vehicle-record-parts _ _ v e in
     let a = decimal-forth 4294967295 (first-field s) (v .kilometres) (omega arith) (p .0) in
@@ -80,7 +80,7 @@ vehicle-record-forth s v e =
 
 -- the text of every vehicle record reads back
 pub vehicle-record-back : (v : VehicleRecord) → Vehicle-record-fits v → vehicle-record-of (vehicle-record-text v) ≡ Some v
-unfolding vehicle-record-of vehicle-record-text
+unfolding vehicle-record-of
 vehicle-record-back v h =
     let a = number-first (v .kilometres) 4294967295 (decimal (v .«work_order»)) (omega arith) (h .0) in
     let r = number-later (v .kilometres) (decimal (v .«work_order»)) (omega arith) in

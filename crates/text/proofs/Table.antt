@@ -1,40 +1,24 @@
--- A table that follows a rule: one test over all its entries, which antt computes, shows the rule at each of them.
-use mathlib.Core.Path.{_≡_, _∙_, subst, sym}
-use mathlib.Core.Bool.{Bool, true, false}
-use mathlib.Core.List.{List, [], _∷_}
+-- A table that follows a rule. One test over all of its entries, which antt computes, shows the rule at every place,
+-- so that no entry is written again in a proof.
 use Prim.Native.Nat.{ℕ, zero, suc, _+_, _<_}
-use native.Mathlib.Nat.{add-zero, zero-add, add-suc, suc-add, le-of-suc-le-suc, not-suc-le-zero}
-use lib.Dec.{T, eqb, eqb→eq}
+use mathlib.Core.Bool.{Bool, true, _&&_}
+use mathlib.Core.List.{List, [], _∷_}
+use mathlib.Core.Path.{_≡_, ap, _∙_}
+use native.Mathlib.Omega.{arith}
+use lib.Dec.{eqb}
 use lib.ListN.{length, getD}
+use Rattle.std.proofs.shelf.Tests.{and-parts, eqb-true}
 
-abbrev pub both : Bool → Bool → Bool
-both true b = b
-both false b = false
+-- each entry is what the rule says of its place, counted from i
+abbrev pub follows : (ℕ → ℕ) → ℕ → List ℕ → Bool
+follows rule i [] = true
+follows rule i (x ∷ xs) = eqb x (rule i) && follows rule (suc i) xs
 
-both-left : (a b : Bool) → T (both a b) → T a
-both-left true b t = tt
-both-left false b t = t
+entry : (rule : ℕ → ℕ) (i : ℕ) (xs : List ℕ) → follows rule i xs ≡ true → (k : ℕ) → k < length xs → getD xs k 0 ≡ rule (i + k)
+entry rule i [] e k h = absurd (omega arith)
+entry rule i (x ∷ xs) e zero h = eqb-true x (rule i) (and-parts (eqb x (rule i)) (follows rule (suc i) xs) e .0) ∙ ap rule (omega arith)
+entry rule i (x ∷ xs) e (suc k) h = entry rule (suc i) xs (and-parts (eqb x (rule i)) (follows rule (suc i) xs) e .1) k (omega arith) ∙ ap rule (omega arith)
 
-both-right : (a b : Bool) → T (both a b) → T b
-both-right true b t = t
-both-right false b t = absurd t
-
--- the test f passes at each entry of the list and its place, counted from i
-abbrev pub every : (ℕ → ℕ → Bool) → ℕ → List ℕ → Bool
-every f i [] = true
-every f i (x ∷ xs) = both (f i x) (every f (suc i) xs)
-
-from : (f : ℕ → ℕ → Bool) (xs : List ℕ) (i : ℕ) → T (every f i xs) → (k : ℕ) → k < length xs → T (f (i + k) (getD xs k 0))
-from f [] i t k h = absurd (not-suc-le-zero h)
-from f (x ∷ xs) i t zero h = subst (λ (m : ℕ). T (f m x)) (sym (add-zero i)) (both-left (f i x) (every f (suc i) xs) t)
-from f (x ∷ xs) i t (suc k) h =
-    subst (λ (m : ℕ). T (f m (getD xs k 0))) (suc-add i k ∙ sym (add-suc i k))
-    (from f xs (suc i) (both-right (f i x) (every f (suc i) xs) t) k (le-of-suc-le-suc h))
-
-pub at : (f : ℕ → ℕ → Bool) (xs : List ℕ) → T (every f 0 xs) → (k : ℕ) → k < length xs → T (f k (getD xs k 0))
-at f xs t k h = subst (λ (m : ℕ). T (f m (getD xs k 0))) (zero-add k) (from f xs 0 t k h)
-
--- a table of n entries follows a rule
-pub ruled : (rule : ℕ → ℕ) (n k : ℕ) → k < n → (xs : List ℕ) → length xs ≡ n → T (every (λ i x. eqb x (rule i)) 0 xs) → getD xs k 0 ≡ rule k
-ruled rule n k h xs e t =
-    eqb→eq (getD xs k 0) (rule k) (at (λ i x. eqb x (rule i)) xs t k (subst (λ (m : ℕ). k < m) (sym e) h))
+-- the rule at place k of a table of n entries
+pub ruled : (rule : ℕ → ℕ) (n k : ℕ) → k < n → (table : List ℕ) → length table ≡ n → follows rule 0 table ≡ true → getD table k 0 ≡ rule k
+ruled rule n k h table e t = entry rule 0 table t k (omega arith) ∙ ap rule (omega arith)

@@ -1,4 +1,5 @@
 -- Coolant temperatures in degrees Celsius, and their texts.
+-- A byte holds the degrees above -40, so its values are just those of the range.
 use Prim.Native.Nat.{ℕ, _+_, _-_}
 use mathlib.Core.Bool.{Bool, cond, _&&_}
 use mathlib.Core.List.{List}

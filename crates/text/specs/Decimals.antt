@@ -1,4 +1,5 @@
--- Decimal numbers: what a text of digits stands for. Their text is the standard library's `decimal`.
+-- Decimal numbers: what a text of digits stands for.
+-- The text of a number is the standard library's `decimal`.
 use Prim.Native.Nat.{ℕ}
 use mathlib.Core.Bool.{cond, _&&_, _||_}
 use mathlib.Core.List.{List}

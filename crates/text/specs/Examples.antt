@@ -1,4 +1,5 @@
 -- Worked examples of the texts, each with what a reader tells of it.
+-- They are about the definitions, to which each reader's answer is equal.
 use mathlib.Core.Path.{_≡_}
 use lib.Chars.{codes}
 use Rattle.std.specs.Options.{okOr}

@@ -1,4 +1,5 @@
 -- Fields of a text, each parted from the next by one space (byte 32).
+-- A text is its first field, a space and the later fields; without a space it is one field.
 use Prim.Native.Nat.{ℕ, suc, _+_}
 use mathlib.Core.Bool.{Bool, true, cond, _&&_, not}
 use mathlib.Core.List.{List, [], _∷_}

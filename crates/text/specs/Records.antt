@@ -1,4 +1,5 @@
 -- Records as text: their fields in decimal, each parted from the next by one space (byte 32).
+-- A text whose fields are not of the record's ranges stands for none.
 use Prim.Native.Nat.{ℕ, _≤_}
 use mathlib.Core.List.{List, _∷_, _++_}
 use Rattle.std.specs.Written.{decimal}
@@ -44,7 +45,7 @@ unfoldable pub vehicle-record-of : List ℕ → Option VehicleRecord
 vehicle-record-of s = vehicle-record-with (decimal-of 4294967295 (first-field s)) (decimal-of 4294967295 (later-fields s))
 
 -- the text of a vehicle record
-unfoldable pub vehicle-record-text : VehicleRecord → List ℕ
+abbrev pub vehicle-record-text : VehicleRecord → List ℕ
 vehicle-record-text v = decimal (v .kilometres) ++ 32 ∷ decimal (v .«work_order»)
 
 -- the ranges of a vehicle record's numbers, which every vehicle record of a program keeps

@@ -1,4 +1,5 @@
--- The refusal of a text as it is told.
+-- The refusal of a text as it is told: every promise of a reader speaks of this number.
+-- A case that is added to the enum is given its number here.
 use Rattle.keys.specs.Refusals.{Code, plain}
 use Rattle.text.specs.declared.refusal.TextRefusal.{TextRefusal}
 use Rattle.text.specs.declared.refusal.TextRefusal.the-variants.{Malformed}

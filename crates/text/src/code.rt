@@ -2,14 +2,14 @@
 // A code text is a letter, a digit from 0 to 3 and three hexadecimal digits in capitals; a code key's is four such digits for the unit, a colon and the code text.
 ghost use Prim.Native.Nat.{_<_};
 ghost use Rattle.std.specs.Slices.{found};
-ghost use Rattle.text.specs.Digits.{last-digits};
+ghost use Rattle.text.specs.Digits.{at-most, last-digits, number-of};
 ghost use Rattle.text.specs.Codes.{code-key-of, code-key-text, code-key-with, code-of, code-text, letter-of, letter-value};
 ghost use mathlib.Core.Path.{_≡_};
 use crate::digits::number;
 use crate::digits::write_digits;
 use keys::CodeKey;
 
-const SIXTEEN: u64 = 16;
+const BASE: u64 = 16;
 
 // Characters of a code text, and of a code key's.
 const CODE_LENGTH: usize = 5;
@@ -21,8 +21,8 @@ const COLON: u8 = b':';
 
 const COLON_PLACE: usize = 4;
 
-// A code's top two bits, which its letter stands for, count so many times its other fourteen.
-const TOP_BITS: u16 = 0x4000;
+// How many values a code's low fourteen bits have, those below the two that its letter stands for.
+const LOW_VALUES: u16 = 0x4000;
 
 // What a letter stands for in the top two bits.
 fn letter_value(b: u8) -> Option<u16>
@@ -59,8 +59,8 @@ pub(crate) fn code_of(s: &[u8]) -> Option<u16>
         return None;
     }
     let top = letter_value(s[0])?;
-    let low = number(&s[1..], SIXTEEN, (TOP_BITS - 1) as u64)?;
-    Some(top * TOP_BITS + low as u16)
+    let low = number(&s[1..], BASE, (LOW_VALUES - 1) as u64)?;
+    Some(top * LOW_VALUES + low as u16)
 }
 
 // The code key that a text stands for, or none.
@@ -70,11 +70,23 @@ pub fn code_key_of(s: &[u8]) -> Option<CodeKey>
     if s.len() != CODE_KEY_LENGTH || s[COLON_PLACE] != COLON {
         return None;
     }
-    let unit = number(&s[0..COLON_PLACE], SIXTEEN, u16::MAX as u64)?;
-    let code = code_of(&s[COLON_PLACE + 1..])?;
+    code_key_with(unit_of(&s[0..COLON_PLACE]), code_of(&s[COLON_PLACE + 1..]))
+}
+
+// The unit that hexadecimal digits stand for, or none.
+fn unit_of(s: &[u8]) -> Option<u16>
+    ensures answer { λ r. ⌜ r ≡ at-most 0xFFFF (number-of 16 (now (s .entry))) ⌝ }
+{
+    Some(number(s, BASE, u16::MAX as u64)? as u16)
+}
+
+// The key of a unit and a code, where both are there.
+fn code_key_with(unit: Option<u16>, code: Option<u16>) -> Option<CodeKey>
+    ensures answer { λ r. ⌜ r ≡ code-key-with unit code ⌝ }
+{
     Some(CodeKey {
-        unit: unit as u16,
-        code,
+        unit: unit?,
+        code: code?,
     })
 }
 
@@ -83,7 +95,7 @@ fn hex_digits(n: u16) -> [u8; 4]
     ensures answer { λ r. ⌜ r ≡ last-digits 16 4 n ⌝ }
 {
     let mut digits = [0; 4];
-    write_digits(&mut digits, SIXTEEN, n as u64);
+    write_digits(&mut digits, BASE, n as u64);
     digits
 }
 
@@ -91,8 +103,8 @@ fn hex_digits(n: u16) -> [u8; 4]
 pub fn write_code(code: u16) -> [u8; 5]
     ensures answer { λ r. ⌜ r ≡ code-text code ⌝ }
 {
-    let [a, b, c, d] = hex_digits(code % TOP_BITS);
-    [letter_of(code / TOP_BITS), a, b, c, d]
+    let [a, b, c, d] = hex_digits(code % LOW_VALUES);
+    [letter_of(code / LOW_VALUES), a, b, c, d]
 }
 
 // The text of a code key.

@@ -1,11 +1,12 @@
-// Decimal numbers as text: digits without sign and without leading zeros, up to a limit.
+// Decimal numbers as text: digits without sign and without leading zeros, up to the limit of the type asked for.
+// An empty text is no number.
 ghost use Prim.Native.Nat.{_≤_};
 ghost use Rattle.std.specs.Slices.{found};
 ghost use Rattle.text.specs.Decimals.{decimal-of};
 ghost use mathlib.Core.Path.{_≡_};
 use crate::digits::number;
 
-const TEN: u64 = 10;
+const BASE: u64 = 10;
 
 // The number that a text stands for, up to a limit.
 pub(crate) fn decimal(s: &[u8], limit: u64) -> Option<u64>
@@ -15,7 +16,7 @@ pub(crate) fn decimal(s: &[u8], limit: u64) -> Option<u64>
     if s.len() == 0 || (s[0] == b'0' && s.len() > 1) {
         return None;
     }
-    number(s, TEN, limit)
+    number(s, BASE, limit)
 }
 
 // The number that a text stands for, where it has 8 bits.

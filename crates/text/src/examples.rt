@@ -1,4 +1,5 @@
-// The worked examples of codes and vehicle keys, as a theorem on the definitions that the readers are held to.
+// The worked examples of codes and vehicle keys, in one statement.
+// It is a theorem on the definitions that the readers are held to.
 ghost use Rattle.text.specs.Examples.{Text-examples};
 ghost use mathlib.Core.Bool.{true};
 ghost use mathlib.Core.Path.{_≡_};

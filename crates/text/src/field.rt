@@ -1,4 +1,5 @@
 // Fields of a text, each parted from the next by one space.
+// Where there is no space, the text is one field and nothing stands behind it.
 ghost use Prim.Native.Nat.{_≤_};
 ghost use Rattle.text.specs.Fields.{first-field, later-fields, space-at};
 ghost use lib.ListN.{length};

@@ -1,4 +1,5 @@
 // Why a text is refused. There is one reason: it is not the text of any value in its range.
+// A refusal is told by its number, and this one has no values beside it.
 ghost use Rattle.text.specs.Refusals.{code};
 ghost use mathlib.Core.Path.{_≡_};
 

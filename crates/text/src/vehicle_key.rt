@@ -17,7 +17,7 @@ use crate::digits::write_digits;
 use crate::refusal::TextRefusal;
 use keys::VehicleKey;
 
-const THIRTY_SIX: u64 = 36;
+const BASE: u64 = 36;
 
 // Characters of a text, and of the first number in it.
 const LENGTH: usize = 17;
@@ -31,8 +31,8 @@ pub(crate) fn vehicle_key_of(s: &[u8]) -> Option<VehicleKey>
     if s.len() != LENGTH {
         return None;
     }
-    let first = number(&s[0..FIRST_LENGTH], THIRTY_SIX, u64::MAX)?;
-    let second = number(&s[FIRST_LENGTH..], THIRTY_SIX, u64::MAX)?;
+    let first = number(&s[0..FIRST_LENGTH], BASE, u64::MAX)?;
+    let second = number(&s[FIRST_LENGTH..], BASE, u64::MAX)?;
     Some(VehicleKey { first, second })
 }
 
@@ -50,8 +50,8 @@ fn write_numbers(out: &mut [u8], key: VehicleKey)
     requires { ⌜ length (now out) ≡ 17 ⌝ }
     ensures after { λ _. ⌜ now (out .exit) ≡ vehicle-key-text key ⌝ }
 {
-    write_digits(&mut out[0..FIRST_LENGTH], THIRTY_SIX, key.first);
-    write_digits(&mut out[FIRST_LENGTH..LENGTH], THIRTY_SIX, key.second);
+    write_digits(&mut out[0..FIRST_LENGTH], BASE, key.first);
+    write_digits(&mut out[FIRST_LENGTH..LENGTH], BASE, key.second);
 }
 
 // The key with these two numbers.

@@ -16,20 +16,8 @@ returns-then-s-ne-CODE-KEY-LENGTH c =
       | no-colon w ↦ record { answer = sym (cond-false _ _ _ (and-right _ _ (ne-eqb _ 58 (w .if-s-ne-COLON .taken)))) }
     ]
 
-pub returns-in-Break-unit : need.returns-in-Break-unit
-unfolding code-key-of
-returns-in-Break-unit c =
-    let unit = unit-read (c .args .s .now) _ (c .if-s-ne-CODE-KEY-LENGTH .left) (c .number .ensures .answer) in
-    search needs
-
-pub returns-in-Break-code : need.returns-in-Break-code
-unfolding code-key-of
-returns-in-Break-code c =
-    let unit = unit-read (c .args .s .now) _ (c .if-s-ne-CODE-KEY-LENGTH .left) (c .number .ensures .answer) in
-    search (needs, take-rest (c .args .s .now) 5)
-
 pub returns : need.returns
 unfolding code-key-of
 returns c =
-    let unit = unit-read (c .args .s .now) _ (c .if-s-ne-CODE-KEY-LENGTH .left) (c .number .ensures .answer) in
+    let unit = unit-read (c .args .s .now) _ (c .if-s-ne-CODE-KEY-LENGTH .left) (c .unit-of .ensures .answer) in
     search (needs, take-rest (c .args .s .now) 5)

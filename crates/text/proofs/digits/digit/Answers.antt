@@ -4,4 +4,4 @@ use Rattle.text.proofs.Table.{ruled}
 use Rattle.text.proofs.digits.digit.Needs as need
 
 pub returns : need.returns
-returns c = search (ruled digit-of 256 (c .args .b) (c .fits .b .fits), tt {0})
+returns c = search (ruled digit-of 256 (c .args .b) (c .fits .b .fits))
