@@ -1,5 +1,5 @@
 -- Trouble codes and code keys as text.
--- A code text is a letter for the top two of sixteen bits and the other fourteen in hexadecimal, so that its first digit is 0 to 3.
+-- A code text is a letter for the top two of sixteen bits and four hexadecimal digits for the low fourteen, so that the first of these is 0 to 3.
 -- A code key's text is the unit in hexadecimal, a colon and the code text.
 use Prim.Native.Nat.{ℕ, _+_, _*_, _/_, _%_, _<_}
 use mathlib.Core.Bool.{cond, _&&_}
@@ -16,10 +16,11 @@ abbrev pub letter-value : ℕ → Option ℕ
 letter-value b =
     cond (eqb b 80) (Some 0) (cond (eqb b 67) (Some 1) (cond (eqb b 66) (Some 2) (cond (eqb b 85) (Some 3) None)))
 
+-- the letter of a value from 0 to 3
 abbrev pub letter-of : ℕ → ℕ
 letter-of n = cond (eqb n 0) 80 (cond (eqb n 1) 67 (cond (eqb n 2) 66 85))
 
--- a code from its top two bits and its other fourteen
+-- a code from its top two bits and its low fourteen, where both are there
 abbrev pub code-with : Option ℕ → Option ℕ → Option ℕ
 code-with None low = None
 code-with (Some top) None = None
@@ -34,6 +35,7 @@ code-of s =
 unfoldable pub code-text : ℕ → List ℕ
 code-text code = letter-of (code / 0x4000) ∷ last-digits 16 4 (code % 0x4000)
 
+-- a code key from its unit and its code, where both are there
 abbrev pub code-key-with : Option ℕ → Option ℕ → Option CodeKey
 code-key-with None code = None
 code-key-with (Some unit) None = None

@@ -13,24 +13,24 @@ use Rattle.std.specs.declared.option.Option.the-variants.{Some, None}
 use Rattle.text.specs.Decimals.{decimal-of}
 use Rattle.text.specs.declared.coolant.Coolant.{Coolant}
 
--- a coolant temperature in degrees Celsius
+-- a temperature in degrees
 abbrev pub celsius : Coolant → ℤ
 celsius coolant = pos (coolant .raw) -ℤ pos 40
 
--- from -40 to 215 degrees
+-- whether so many degrees are from -40 to 215
 abbrev pub in-range : ℤ → Bool
 in-range degrees = leZ (negsuc 39) degrees && leZ degrees (pos 215)
 
--- its text: the degrees in decimal, with a minus sign below zero
+-- the text of a temperature: the degrees in decimal, with a minus sign below zero
 unfoldable pub coolant-text : Coolant → List ℕ
 coolant-text coolant = signed (celsius coolant)
 
--- so many degrees below zero; -0 is none
+-- the temperature of so many degrees below zero; -0 is none
 abbrev pub below-zero : Option ℕ → Option Coolant
 below-zero None = None
 below-zero (Some n) = cond (eqb n 0) None (Some (record { raw = 40 - n }))
 
--- so many degrees from zero up
+-- the temperature of so many degrees from zero up
 abbrev pub from-zero : Option ℕ → Option Coolant
 from-zero None = None
 from-zero (Some n) = Some (record { raw = 40 + n })

@@ -12,6 +12,7 @@ use Rattle.text.specs.declared.coolant.Coolant.{Coolant}
 use Rattle.text.specs.declared.record.FaultRecord.{FaultRecord}
 use Rattle.text.specs.declared.record.VehicleRecord.{VehicleRecord}
 
+-- a fault record from its fields, where all are there
 abbrev pub fault-with : Option ℕ → Option ℕ → Option ℕ → Option Coolant → Option FaultRecord
 fault-with None occurrences speed coolant = None
 fault-with (Some status) None speed coolant = None
@@ -35,6 +36,7 @@ fault-text f =
 abbrev pub Fault-fits : FaultRecord → Type 0
 Fault-fits f = (f .status ≤ 255) × (f .occurrences ≤ 65535) × (f .«engine_speed» ≤ 65535) × (f .coolant .raw ≤ 255)
 
+-- a vehicle record from its fields, where both are there
 abbrev pub vehicle-record-with : Option ℕ → Option ℕ → Option VehicleRecord
 vehicle-record-with None order = None
 vehicle-record-with (Some kilometres) None = None

@@ -100,7 +100,7 @@ fn hex_digits(n: u16) -> [u8; 4]
 }
 
 // The text of a code.
-pub fn write_code(code: u16) -> [u8; 5]
+pub fn write_code(code: u16) -> [u8; CODE_LENGTH]
     ensures answer { λ r. ⌜ r ≡ code-text code ⌝ }
 {
     let [a, b, c, d] = hex_digits(code % LOW_VALUES);
@@ -108,7 +108,7 @@ pub fn write_code(code: u16) -> [u8; 5]
 }
 
 // The text of a code key.
-pub fn write_code_key(key: CodeKey) -> [u8; 10]
+pub fn write_code_key(key: CodeKey) -> [u8; CODE_KEY_LENGTH]
     ensures answer { λ r. ⌜ r ≡ code-key-text key ⌝ }
 {
     let [a, b, c, d] = hex_digits(key.unit);

@@ -57,13 +57,13 @@ pub impl fmt::Display for Coolant as CoolantDisplay {
 pub(crate) fn coolant_of(s: &[u8]) -> Option<Coolant>
     ensures answer { λ r. ⌜ r ≡ coolant-of (now (s .entry)) ⌝ }
 {
-    if s.len() > 0 && s[0] == b'-' {
-        below_zero(&s[1..])
-    } else {
-        from_zero(s)
+    match s {
+        [b'-', degrees @ ..] => below_zero(degrees),
+        _ => from_zero(s),
     }
 }
 
+// The temperature of so many degrees below zero, from 1 to 40; -0 is none.
 fn below_zero(s: &[u8]) -> Option<Coolant>
     ensures answer { λ r. ⌜ r ≡ below-zero (decimal-of 40 (now (s .entry))) ⌝ }
 {
@@ -76,6 +76,7 @@ fn below_zero(s: &[u8]) -> Option<Coolant>
     })
 }
 
+// The temperature of so many degrees from zero up, to 215.
 fn from_zero(s: &[u8]) -> Option<Coolant>
     ensures answer { λ r. ⌜ r ≡ from-zero (decimal-of 215 (now (s .entry))) ⌝ }
 {

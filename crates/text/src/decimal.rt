@@ -13,10 +13,12 @@ pub(crate) fn decimal(s: &[u8], limit: u64) -> Option<u64>
     ensures answer { λ r. ⌜ r ≡ decimal-of limit (now (s .entry)) ⌝ }
     ensures range { λ r. ⌜ found r (λ n. n ≤ limit) ⌝ }
 {
-    if s.len() == 0 || (s[0] == b'0' && s.len() > 1) {
-        return None;
+    match s {
+        [] => None,
+        // a leading zero
+        [b'0', _, ..] => None,
+        _ => number(s, BASE, limit),
     }
-    number(s, BASE, limit)
 }
 
 // The number that a text stands for, where it has 8 bits.
