@@ -1,6 +1,7 @@
 // What a place of the store holds, what can happen to it, and the tests by which calls pick places.
 // The record of a place lies on the shelf, at the same number. Each method is its definition in specs/Places.antt.
-ghost use Rattle.ledger.specs.Places.{after, carries, free, in-report, is-current, is-draft-of, is-finished, is-free, is-seen-at, is-wanted, key-of};
+ghost use Rattle.ledger.specs.Places.{after, carries, free, in-report, is-current, is-draft-of, is-finished, is-free, is-seen-at, is-wanted, key-of, spans};
+ghost use Rattle.std.specs.declared.option.Option.the-variants.{Some};
 ghost use lib.Dec.{ltb};
 ghost use mathlib.Core.Path.{_≡_};
 use keys::Key;
@@ -107,7 +108,7 @@ impl<K: Copy> Place<K> {
     {
         match self.state {
             PlaceState::Current { begin, .. } => begin <= stamp,
-            PlaceState::Superseded { begin, finish, .. } => begin <= stamp && stamp < finish,
+            PlaceState::Superseded { begin, finish, .. } => span_holds(begin, finish, stamp),
             _ => false,
         }
     }
@@ -146,12 +147,19 @@ impl<K: Key> Place<K> {
     }
 }
 
-// Whether the span from begin up to, but without, finish holds the stamp of one of the reports.
+// Whether the span from begin up to, but without, finish holds the stamp.
+fn span_holds(begin: u32, finish: u32, stamp: u32) -> bool
+    ensures answer { λ r. ⌜ r ≡ spans begin (Some finish) stamp ⌝ }
+{
+    begin <= stamp && stamp < finish
+}
+
+// Whether the span holds the stamp of one of the reports.
 fn is_in_report(reports: &[Report], begin: u32, finish: u32) -> bool
     ensures answer { λ r. ⌜ r ≡ in-report (now (reports .entry)) begin finish ⌝ }
 {
     for report in reports {
-        if begin <= report.stamp && report.stamp < finish {
+        if span_holds(begin, finish, report.stamp) {
             return true;
         }
     }
