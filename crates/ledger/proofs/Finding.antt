@@ -111,6 +111,10 @@ all-none {X} p (x ∷ xs) e = (go (p x) refl, all-none p xs (omega (arith, sumBy
 abbrev pub found : {X Y : Type 0} → (X → Option Y) → X → Bool
 found f x = isSome (f x)
 
+pub none-if : {X : Type 0} (o : Option X) → isSome o ≡ false → o ≡ None
+none-if None e = refl
+none-if (Some x) e = never true e refl
+
 pub found-when : {X : Type 0} (b : Bool) (x : X) → isSome (when b x) ≡ b
 found-when true x = refl
 found-when false x = refl

@@ -1,0 +1,165 @@
+-- What a commit makes of one version, and so of all: where the job drafted, its draft is what is current from the new stamp on;
+-- elsewhere what was current stays; every earlier stamp sees what it saw; and other jobs keep their drafts.
+use mathlib.Core.Path.{_≡_, refl, sym, ap, _∙_}
+use mathlib.Core.Bool.{Bool, true, false, cond, not, _&&_}
+use Prim.Native.Nat.{ℕ, _+_, _<_, _≤_}
+use native.Mathlib.Omega.{arith}
+use lib.Dec.{eqb, leb, ltb}
+use Rattle.std.specs.shelf.Lists.{List, [], _∷_, countBy, All}
+use Rattle.std.proofs.shelf.Elements.{all-weaker}
+use Rattle.std.proofs.shelf.Sums.{sumBy-cons}
+use Rattle.std.proofs.shelf.Tests.{eqb-true, eqb-false, lt-leb, lt-ltb, cond-true, cond-false}
+use Rattle.std.specs.Options.{isSome, mapped, valueOr}
+use Rattle.std.specs.Orderings.{isEq}
+use Rattle.std.specs.declared.cmp.Ordering.{Ordering}
+use Rattle.std.specs.declared.cmp.Ordering.the-variants.{Less, Equal, Greater}
+use Rattle.std.specs.declared.option.Option.{Option}
+use Rattle.std.specs.declared.option.Option.the-variants.{Some, None}
+use Rattle.keys.specs.Orders.{Total}
+use Rattle.ledger.specs.Words.{when, listed, picked, first, or-else, same}
+use Rattle.ledger.specs.Places.{spans}
+use Rattle.ledger.specs.Versions.{Version, draft, committed, draft-in, draft-at, has-draft, current-in, current-at, seen-in, seen-at, settled, settled-all}
+use Rattle.ledger.proofs.Finding.{never, differ, found, when-off, and-then, first-picked, none-found, all-of, all-none}
+use Rattle.ledger.proofs.Model.{In-time}
+
+pub same-is : {K : Type 0} (order : K → K → Ordering) → Total order → (a b : K) → same order a b ≡ true → a ≡ b
+same-is order tot a b e = go (order a b) refl e
+  where
+    go : (o : Ordering) → order a b ≡ o → isEq o ≡ true → a ≡ b
+    go Less p q = never false refl q
+    go Equal p q = tot .same a b p
+    go Greater p q = never false refl q
+
+-- the record of a draft; none where there is no draft, or one without a record
+abbrev pub draft-record : {R : Type 0} → Option (Option R) → Option R
+draft-record None = None
+draft-record (Some d) = d
+
+-- where at most one draft is found, its record is found first
+first-record : {X R : Type 0} (f : X → Option (Option R)) (xs : List X) (d : Option R) → countBy (found f) xs ≤ 1 → first f xs ≡ Some d → first (λ x. draft-record (f x)) xs ≡ d
+first-record f [] d c e = differ cc
+first-record {X} {R} f (x ∷ xs) d c e = go (f x) refl e (λ c′ e′. first-record f xs d c′ e′)
+  where
+    total : countBy (found f) (x ∷ xs) ≡ cond (found f x) 1 0 + countBy (found f) xs
+    total = sumBy-cons (λ x. cond (found f x) 1 0) x xs
+    rest-none : (ys : List X) → All (λ y. found f y ≡ false) ys → first (λ x. draft-record (f x)) ys ≡ None
+    rest-none [] a = refl
+    rest-none (y ∷ ys) a = alone (f y) (a .0) (rest-none ys (a .1))
+      where
+        alone : (o : Option (Option R)) → isSome o ≡ false → first (λ x. draft-record (f x)) ys ≡ None → or-else (draft-record o) (first (λ x. draft-record (f x)) ys) ≡ None
+        alone None p q = q
+        alone (Some d) p q = never true p refl
+    go : (o : Option (Option R)) → f x ≡ o → or-else o (first f xs) ≡ Some d → (countBy (found f) xs ≤ 1 → first f xs ≡ Some d → first (λ x. draft-record (f x)) xs ≡ d) → or-else (draft-record (f x)) (first (λ x. draft-record (f x)) xs) ≡ d
+    go None ef e rec = let z : _≡_ {A = ℕ} (cond (found f x) 1 0) 0 = rw ef in rw ef (rec (omega (arith, total)) e)
+    go (Some None) ef e rec =
+        let one : _≡_ {A = ℕ} (cond (found f x) 1 0) 1 = rw ef in
+        let z : countBy (found f) xs ≡ 0 = omega (arith, total) in
+        let ed : None ≡ d = cc in
+        rw ef (rest-none xs (all-none (found f) xs z) ∙ ed)
+    go (Some (Some r)) ef e rec = let ed : Some r ≡ d = cc in rw ef ed
+
+module _ {K R : Type 0} (order : K → K → Ordering) (tot : Total order) (t stamp : ℕ) (written : K → Bool) where
+  -- the job's own drafts go, the others stay
+  pub settled-draft : (j : ℕ) (k : K) (v : Version K R) → and-then (settled order t stamp written v) (draft-in order j k) ≡ cond (eqb j t) None (draft-in order j k v)
+  settled-draft j k (draft i q d) = go (eqb i t) refl (eqb j t) refl (eqb i j) refl
+    where
+      gone : (d : Option R) → and-then (mapped (λ r. committed q r stamp None) d) (draft-in order j k) ≡ None
+      gone None = refl
+      gone (Some r) = refl
+      go : (x : Bool) → eqb i t ≡ x → (y : Bool) → eqb j t ≡ y → (z : Bool) → eqb i j ≡ z → and-then (cond x (mapped (λ r. committed q r stamp None) d) (Some (draft i q d))) (draft-in order j k) ≡ cond y None (when (z && same order q k) d)
+      go true ex true ey z ez = gone d
+      go true ex false ey true ez = absurd (eqb-false j t ey (sym (eqb-true i j ez) ∙ eqb-true i t ex))
+      go true ex false ey false ez = gone d
+      go false ex true ey true ez = absurd (eqb-false i t ex (eqb-true i j ez ∙ eqb-true j t ey))
+      go false ex true ey false ez = rw ez
+      go false ex false ey z ez = rw ez
+  settled-draft j k (committed q r b f) = go (eqb j t)
+    where
+      go : (y : Bool) → None ≡ cond {A = Option (Option R)} y None None
+      go true = refl
+      go false = refl
+
+  -- an earlier stamp sees what it saw
+  pub settled-seen : (s : ℕ) (k : K) → s < stamp → (v : Version K R) → and-then (settled order t stamp written v) (seen-in order s k) ≡ seen-in order s k v
+  settled-seen s k h (draft i q d) = go (eqb i t) d
+    where
+      go : (x : Bool) (d : Option R) → and-then (cond x (mapped (λ r. committed q r stamp None) d) (Some (draft i q d))) (seen-in order s k) ≡ None
+      go true None = refl
+      go true (Some r) = when-off (same order q k) (leb stamp s) r (lt-leb stamp s h)
+      go false d = refl
+  settled-seen s k h (committed q r b None) = go (written q)
+    where
+      and-true : (x : Bool) → (x && true) ≡ x
+      and-true true = refl
+      and-true false = refl
+      within : (leb b s && ltb s stamp) ≡ leb b s
+      within = rw (lt-ltb s stamp h) (and-true (leb b s))
+      go : (x : Bool) → seen-in order s k (committed q r b (when x stamp)) ≡ when (same order q k && leb b s) r
+      go true = rw within
+      go false = refl
+  settled-seen s k h (committed q r b (Some f)) = refl
+
+  -- at a key that the job wrote its draft is current now, elsewhere what was
+  pub settled-current : (k : K) (v : Version K R) → (written k ≡ false → draft-in order t k v ≡ None) → and-then (settled order t stamp written v) (current-in order k) ≡ cond (written k) (draft-record (draft-in order t k v)) (current-in order k v)
+  settled-current k (draft i q d) n = go (eqb i t) (same order q k) refl (written k) d n
+    where
+      go : (x y : Bool) → same order q k ≡ y → (z : Bool) (d : Option R) → (z ≡ false → when (x && y) d ≡ None) → and-then (cond x (mapped (λ r. committed q r stamp None) d) (Some (draft i q d))) (current-in order k) ≡ cond z (draft-record (when (x && y) d)) None
+      go true true ey true None n = refl
+      go true true ey true (Some r) n = rw ey
+      go true true ey false d n = let e = n refl in differ cc
+      go true false ey true None n = refl
+      go true false ey true (Some r) n = rw ey
+      go true false ey false None n = refl
+      go true false ey false (Some r) n = rw ey
+      go false y ey true d n = refl
+      go false y ey false d n = refl
+  settled-current k (committed q r b None) n = go (written q) refl (same order q k) refl (written k) refl
+    where
+      go : (x : Bool) → written q ≡ x → (y : Bool) → same order q k ≡ y → (z : Bool) → written k ≡ z → current-in order k (committed q r b (when x stamp)) ≡ cond z None (when y r)
+      go true ex true ey true ez = refl
+      go true ex true ey false ez = never (written k) ez (sym (ap written (same-is order tot q k ey)) ∙ ex)
+      go true ex false ey true ez = refl
+      go true ex false ey false ez = refl
+      go false ex true ey true ez = never (written q) ex (ap written (same-is order tot q k ey) ∙ ez)
+      go false ex y ey false ez = rw ey
+      go false ex false ey true ez = rw ey
+  settled-current k (committed q r b (Some f)) n = go (written k)
+    where
+      go : (z : Bool) → None ≡ cond {A = Option R} z None None
+      go true = refl
+      go false = refl
+
+  pub settled-there : (k : K) → written k ≡ true → (v : Version K R) → and-then (settled order t stamp written v) (current-in order k) ≡ draft-record (draft-in order t k v)
+  settled-there k w v = settled-current k v (λ h. never (written k) h w) ∙ cond-true (written k) (draft-record (draft-in order t k v)) (current-in order k v) w
+
+  pub settled-elsewhere : (k : K) → written k ≡ false → (v : Version K R) → draft-in order t k v ≡ None → and-then (settled order t stamp written v) (current-in order k) ≡ current-in order k v
+  settled-elsewhere k w v n = settled-current k v (λ _. n) ∙ cond-false (written k) (draft-record (draft-in order t k v)) (current-in order k v) w
+
+  pub settled-in-time : (before : ℕ) → stamp ≡ before + 1 → (v : Version K R) → In-time before v → All (In-time stamp) (listed (settled order t stamp written v))
+  settled-in-time before e (draft i q d) h = go (eqb i t) d
+    where
+      go : (x : Bool) (d : Option R) → All (In-time stamp) (listed (cond x (mapped (λ r. committed q r stamp None) d) (Some (draft i q d))))
+      go true None = tt
+      go true (Some r) = (omega arith, tt)
+      go false d = (tt, tt)
+  settled-in-time before e (committed q r b None) h = go (written q)
+    where
+      go : (x : Bool) → All (In-time stamp) (committed q r b (when x stamp) ∷ [])
+      go true = (omega arith, tt)
+      go false = (omega arith, tt)
+  settled-in-time before e (committed q r b (Some f)) h = (omega arith, tt)
+
+-- after a job's commit a key has the job's draft, else what it had
+pub current-settled : {K R : Type 0} (order : K → K → Ordering) → Total order → (t stamp : ℕ) (vs : List (Version K R)) (k : K) → countBy (found (draft-in order t k)) vs ≤ 1 → current-at order k (settled-all order t stamp vs) ≡ valueOr (draft-at order t k vs) (current-at order k vs)
+current-settled {K} {R} order tot t stamp vs k one = go (draft-at order t k vs) refl
+  where
+    go : (o : Option (Option R)) → draft-at order t k vs ≡ o → first (current-in order k) (picked (settled order t stamp (λ k. has-draft order t k vs)) vs) ≡ valueOr o (current-at order k vs)
+    go None e =
+        first-picked (current-in order k) (current-in order k) (settled order t stamp (λ k. has-draft order t k vs)) vs
+          (all-weaker (λ v. draft-in order t k v ≡ None) (λ v. and-then (settled order t stamp (λ k. has-draft order t k vs) v) (current-in order k) ≡ current-in order k v)
+            (settled-elsewhere order tot t stamp (λ k. has-draft order t k vs) k (ap isSome e)) vs (none-found (draft-in order t k) vs e))
+    go (Some d) e =
+        first-picked (current-in order k) (λ v. draft-record (draft-in order t k v)) (settled order t stamp (λ k. has-draft order t k vs)) vs
+          (all-of (λ v. and-then (settled order t stamp (λ k. has-draft order t k vs) v) (current-in order k) ≡ draft-record (draft-in order t k v))
+            (settled-there order tot t stamp (λ k. has-draft order t k vs) k (ap isSome e)) vs)
+        ∙ first-record (draft-in order t k) vs d one e
