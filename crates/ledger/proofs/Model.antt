@@ -23,7 +23,8 @@ use Rattle.ledger.specs.Versions.{Version, draft, committed, wanted, finished,
 use Rattle.ledger.specs.Control.{report-at}
 use Rattle.ledger.specs.Calls.{Change, keeps, drafts, commits, aborts, ages, change}
 use Rattle.ledger.specs.Steps.{State, Summary, summary, versions-in, sent-back, control-after}
-use Rattle.ledger.proofs.Permutations.{Perm, perm-sum}
+use Rattle.ledger.proofs.Permutations.{perm-sum}
+use Rattle.ledger.proofs.ButFreed.{Freeable, All-but-freed}
 use Rattle.ledger.proofs.Finding.{never, differ, found, when-off, first-same, first-append, first-none, first-perm, or-none, sum-mono, count-none}
 
 -- as many wanted versions as places
@@ -62,17 +63,12 @@ pub record Sound {K R : Type 0} (order : K → K → Ordering) (stamp : ℕ) (vs
   pub one-seen : (s : ℕ) (k : K) → countBy (found (seen-in order s k)) vs ≤ 1
   pub in-time : All (In-time stamp) vs
 
--- superseded, and in no open report's span
-abbrev pub Freeable : {K R : Type 0} → List Report → Version K R → Type 0
-Freeable reports v = (finished (λ f. true) v ≡ true) × (wanted reports v ≡ false)
-
+-- the store has the model's control state, as many places and records, and its versions but for some that were freed
 pub record Agrees {K R : Type 0} (b : Summary K R) (s : State K R) : Type 0 where
   pub control : s .control ≡ b .control
   pub places : length (s .places) ≡ b .places
   pub shelf : length (s .shelf) ≡ b .places
-  pub freed : List (Version K R)
-  pub listed : Perm (versions-in (s .places) (s .shelf) ++ freed) (b .versions)
-  pub freeable : All (Freeable (b .control .reports)) freed
+  pub versions : All-but-freed (b .control .reports) (b .versions) (versions-in (s .places) (s .shelf))
 
 -- a span that holds no open report's stamp does not hold this one's
 pub not-in-report : (t s b f : ℕ) (reports : List Report) → report-at t reports ≡ Some s → in-report reports b f ≡ false → spans b (Some f) s ≡ false
@@ -124,9 +120,9 @@ module _ {K R : Type 0} (order : K → K → Ordering) where
     -- a look-up that finds at most one version, and none that was freed, gives the same in both
     lookup-same : {Y : Type 0} (f : Version K R → Option Y) → countBy (found f) (b .versions) ≤ 1 → ((v : Version K R) → Freeable (b .control .reports) v → f v ≡ None) → first f (summary s .versions) ≡ first f (b .versions)
     lookup-same f one none =
-        let gone = first-none f (a .freed) (all-weaker (Freeable (b .control .reports)) (λ v. f v ≡ None) none (a .freed) (a .freeable)) in
-        sym (first-append f (summary s .versions) (a .freed) ∙ rw gone (or-none (first f (summary s .versions))))
-        ∙ first-perm f (a .listed) (subst (λ n. n ≤ 1) (sym (perm-sum (λ v. cond (found f v) 1 0) (a .listed))) one)
+        let gone = first-none f (a .versions .freed) (all-weaker (Freeable (b .control .reports)) (λ v. f v ≡ None) none (a .versions .freed) (a .versions .freeable)) in
+        sym (first-append f (summary s .versions) (a .versions .freed) ∙ rw gone (or-none (first f (summary s .versions))))
+        ∙ first-perm f (a .versions .listed) (subst (λ n. n ≤ 1) (sym (perm-sum (λ v. cond (found f v) 1 0) (a .versions .listed))) one)
 
     pub same-draft : (t : ℕ) (k : K) → draft-at order t k (summary s .versions) ≡ draft-at order t k (b .versions)
     same-draft t k = lookup-same (draft-in order t k) (so .one-draft t k) (freeable-no-draft (b .control .reports) t k)
@@ -140,5 +136,5 @@ module _ {K R : Type 0} (order : K → K → Ordering) where
     pub same-wanted : countBy (wanted (b .control .reports)) (summary s .versions) ≡ countBy (wanted (b .control .reports)) (b .versions)
     same-wanted =
         let w : Version K R → Bool = wanted (b .control .reports) in
-        let z = count-none w (a .freed) (all-weaker (Freeable (b .control .reports)) (λ v. w v ≡ false) (λ v h. h .1) (a .freed) (a .freeable)) in
-        omega (arith, sumBy-append (λ v. cond (w v) 1 0) (summary s .versions) (a .freed), perm-sum (λ v. cond (w v) 1 0) (a .listed))
+        let z = count-none w (a .versions .freed) (all-weaker (Freeable (b .control .reports)) (λ v. w v ≡ false) (λ v h. h .1) (a .versions .freed) (a .versions .freeable)) in
+        omega (arith, sumBy-append (λ v. cond (w v) 1 0) (summary s .versions) (a .versions .freed), perm-sum (λ v. cond (w v) 1 0) (a .versions .listed))

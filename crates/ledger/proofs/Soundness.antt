@@ -24,7 +24,7 @@ use Rattle.ledger.specs.Words.{listed, picked, same}
 use Rattle.ledger.specs.Versions.{Version, draft, committed, drafted-by, draft-in, draft-at, has-draft, current-in, seen-in, drafted, settled, settled-all}
 use Rattle.ledger.specs.Steps.{Summary}
 use Rattle.ledger.proofs.Finding.{found, and-then, sum-mono, count-none, count-kept-le, count-picked, none-found, none-if, all-both, all-of, all-picked}
-use Rattle.ledger.proofs.Model.{met, moved-on, next-model, In-time, Sound, current-is-seen-in, one-current}
+use Rattle.ledger.proofs.Model.{moved-on, In-time, Sound, current-is-seen-in, one-current}
 use Rattle.ledger.proofs.Settling.{same-is, draft-record, settled-draft, settled-seen, settled-there, settled-elsewhere, settled-in-time}
 
 in-time-later : {K R : Type 0} (before s : ℕ) → before ≤ s → (v : Version K R) → In-time before v → In-time s v
@@ -129,19 +129,17 @@ module _ {K R : Type 0} (order : K → K → Ordering) (tot : Total order) where
         in-time = all-picked (In-time (st + 1)) g vs (all-weaker (In-time st) (λ v. All (In-time (st + 1)) (listed (g v))) (settled-in-time order tot t (st + 1) written st refl) vs (so .in-time))
       }
 
-  pub sound-after : (b : Summary K R) (c : Call K R) (n : ℕ) → Sound order (b .control .stamp) (b .versions) → Sound order (next-model order b c n .control .stamp) (next-model order b c n .versions)
-  sound-after b c n so = go (met order b c n) c
-    where
-      go : (o : Option Code) (c : Call K R) → Sound order (moved-on order o b c .control .stamp) (moved-on order o b c .versions)
-      go (Some why) c = so
-      go None (Walk t from) = so
-      go None (Basic BeginReport) = so
-      go None (Basic BeginJob) = so
-      go None (Basic (Read t k)) = so
-      go None (Basic (Look t k)) = so
-      go None (Basic (Put t k r)) = sound-drafted (b .control .stamp) (b .versions) (t .number) k (Some r) so
-      go None (Basic (Remove t k)) = sound-drafted (b .control .stamp) (b .versions) (t .number) k None so
-      go None (Basic (Commit t)) = sound-settled (b .control .stamp) (b .versions) (t .number) so
-      go None (Basic (Abort t)) = sound-kept (b .control .stamp) (b .versions) (λ v. not (drafted-by (t .number) v)) so
-      go None (Basic (End t)) = so
-      go None (Basic (Age limit)) = so
+  -- a call that met this refusal, or none, leaves the model sound
+  pub sound-after : (b : Summary K R) (met : Option Code) (c : Call K R) → Sound order (b .control .stamp) (b .versions) → Sound order (moved-on order met b c .control .stamp) (moved-on order met b c .versions)
+  sound-after b (Some why) c so = so
+  sound-after b None (Walk t from) so = so
+  sound-after b None (Basic BeginReport) so = so
+  sound-after b None (Basic BeginJob) so = so
+  sound-after b None (Basic (Read t k)) so = so
+  sound-after b None (Basic (Look t k)) so = so
+  sound-after b None (Basic (Put t k r)) so = sound-drafted (b .control .stamp) (b .versions) (t .number) k (Some r) so
+  sound-after b None (Basic (Remove t k)) so = sound-drafted (b .control .stamp) (b .versions) (t .number) k None so
+  sound-after b None (Basic (Commit t)) so = sound-settled (b .control .stamp) (b .versions) (t .number) so
+  sound-after b None (Basic (Abort t)) so = sound-kept (b .control .stamp) (b .versions) (λ v. not (drafted-by (t .number) v)) so
+  sound-after b None (Basic (End t)) so = so
+  sound-after b None (Basic (Age limit)) so = so
