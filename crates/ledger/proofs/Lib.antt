@@ -9,3 +9,9 @@ pub mod Soundness
 mod Spans
 pub mod Codes
 pub mod Leasts
+pub mod Runs
+pub mod Listed
+pub mod Unseen
+pub mod Checks
+pub mod Full
+pub mod Freeing
