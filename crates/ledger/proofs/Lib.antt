@@ -15,3 +15,6 @@ pub mod Unseen
 pub mod Checks
 pub mod Full
 pub mod Freeing
+pub mod Lookups
+pub mod Remembering
+pub mod Truth

@@ -35,29 +35,6 @@ abbrev pub draft-record : {R : Type 0} → Option (Option R) → Option R
 draft-record None = None
 draft-record (Some d) = d
 
--- where at most one draft is found, its record is found first
-first-record : {X R : Type 0} (f : X → Option (Option R)) (xs : List X) (d : Option R) → countBy (found f) xs ≤ 1 → first f xs ≡ Some d → first (λ x. draft-record (f x)) xs ≡ d
-first-record f [] d c e = differ cc
-first-record {X} {R} f (x ∷ xs) d c e = go (f x) refl e (λ c′ e′. first-record f xs d c′ e′)
-  where
-    total : countBy (found f) (x ∷ xs) ≡ cond (found f x) 1 0 + countBy (found f) xs
-    total = sumBy-cons (λ x. cond (found f x) 1 0) x xs
-    rest-none : (ys : List X) → All (λ y. found f y ≡ false) ys → first (λ x. draft-record (f x)) ys ≡ None
-    rest-none [] a = refl
-    rest-none (y ∷ ys) a = alone (f y) (a .0) (rest-none ys (a .1))
-      where
-        alone : (o : Option (Option R)) → isSome o ≡ false → first (λ x. draft-record (f x)) ys ≡ None → or-else (draft-record o) (first (λ x. draft-record (f x)) ys) ≡ None
-        alone None p q = q
-        alone (Some d) p q = never true p refl
-    go : (o : Option (Option R)) → f x ≡ o → or-else o (first f xs) ≡ Some d → (countBy (found f) xs ≤ 1 → first f xs ≡ Some d → first (λ x. draft-record (f x)) xs ≡ d) → or-else (draft-record (f x)) (first (λ x. draft-record (f x)) xs) ≡ d
-    go None ef e rec = let z : _≡_ {A = ℕ} (cond (found f x) 1 0) 0 = rw ef in rw ef (rec (omega (arith, total)) e)
-    go (Some None) ef e rec =
-        let one : _≡_ {A = ℕ} (cond (found f x) 1 0) 1 = rw ef in
-        let z : countBy (found f) xs ≡ 0 = omega (arith, total) in
-        let ed : None ≡ d = cc in
-        rw ef (rest-none xs (all-none (found f) xs z) ∙ ed)
-    go (Some (Some r)) ef e rec = let ed : Some r ≡ d = cc in rw ef ed
-
 module _ {K R : Type 0} (order : K → K → Ordering) (tot : Total order) (t stamp : ℕ) (written : K → Bool) where
   -- the job's own drafts go, the others stay
   pub settled-draft : (j : ℕ) (k : K) (v : Version K R) → and-then (settled order t stamp written v) (draft-in order j k) ≡ cond (eqb j t) None (draft-in order j k v)
@@ -148,18 +125,3 @@ module _ {K R : Type 0} (order : K → K → Ordering) (tot : Total order) (t st
       go true = (omega arith, tt)
       go false = (omega arith, tt)
   settled-in-time before e (committed q r b (Some f)) h = (omega arith, tt)
-
--- after a job's commit a key has the job's draft, else what it had
-pub current-settled : {K R : Type 0} (order : K → K → Ordering) → Total order → (t stamp : ℕ) (vs : List (Version K R)) (k : K) → countBy (found (draft-in order t k)) vs ≤ 1 → current-at order k (settled-all order t stamp vs) ≡ valueOr (draft-at order t k vs) (current-at order k vs)
-current-settled {K} {R} order tot t stamp vs k one = go (draft-at order t k vs) refl
-  where
-    go : (o : Option (Option R)) → draft-at order t k vs ≡ o → first (current-in order k) (picked (settled order t stamp (λ k. has-draft order t k vs)) vs) ≡ valueOr o (current-at order k vs)
-    go None e =
-        first-picked (current-in order k) (current-in order k) (settled order t stamp (λ k. has-draft order t k vs)) vs
-          (all-weaker (λ v. draft-in order t k v ≡ None) (λ v. and-then (settled order t stamp (λ k. has-draft order t k vs) v) (current-in order k) ≡ current-in order k v)
-            (settled-elsewhere order tot t stamp (λ k. has-draft order t k vs) k (ap isSome e)) vs (none-found (draft-in order t k) vs e))
-    go (Some d) e =
-        first-picked (current-in order k) (λ v. draft-record (draft-in order t k v)) (settled order t stamp (λ k. has-draft order t k vs)) vs
-          (all-of (λ v. and-then (settled order t stamp (λ k. has-draft order t k vs) v) (current-in order k) ≡ draft-record (draft-in order t k v))
-            (settled-there order tot t stamp (λ k. has-draft order t k vs) k (ap isSome e)) vs)
-        ∙ first-record (draft-in order t k) vs d one e
