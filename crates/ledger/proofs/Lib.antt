@@ -18,3 +18,6 @@ pub mod Freeing
 pub mod Lookups
 pub mod Remembering
 pub mod Truth
+pub mod Going
+pub mod Reached
+pub mod Whole
