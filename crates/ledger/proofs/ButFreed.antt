@@ -39,18 +39,18 @@ module _ {K R : Type 0} (reports : List Report) (all here : List (Version K R)) 
   -- after a change of each version that leaves freeable ones alone
   pub but-freed-picked : (g : Version K R → Option (Version K R)) → ((v : Version K R) → Freeable reports v → g v ≡ Some v) → All-but-freed reports (picked g all) (picked g here)
   but-freed-picked g alone = record {
-      freed = w .freed;
-      listed =
+    freed = w .freed;
+    listed =
         then (perm-append-left (picked g here) (perm-eq (w .freed) (picked g (w .freed)) (sym (picked-self g (w .freed) (all-weaker (Freeable reports) (λ v. g v ≡ Some v) alone (w .freed) (w .freeable))))))
-          (then (perm-eq (picked g here ++ picked g (w .freed)) (picked g (here ++ w .freed)) (sym (joined-append (λ v. listed (g v)) here (w .freed)))) (perm-joined (λ v. listed (g v)) (w .listed)));
-      freeable = w .freeable
-    }
+        (then (perm-eq (picked g here ++ picked g (w .freed)) (picked g (here ++ w .freed)) (sym (joined-append (λ v. listed (g v)) here (w .freed)))) (perm-joined (λ v. listed (g v)) (w .listed)));
+    freeable = w .freeable;
+  }
 
   -- after a filter that lets freeable ones pass
   pub but-freed-kept : (test : Version K R → Bool) → ((v : Version K R) → Freeable reports v → test v ≡ true) → All-but-freed reports (kept-by test all) (kept-by test here)
   but-freed-kept test pass =
       subst (λ vs. All-but-freed reports vs (kept-by test here)) (picked-kept test all)
-        (subst (λ vs. All-but-freed reports (picked (λ v. when (test v) v) all) vs) (picked-kept test here) (but-freed-picked (λ v. when (test v) v) (λ v h. rw (pass v h))))
+      (subst (λ vs. All-but-freed reports (picked (λ v. when (test v) v) all) vs) (picked-kept test here) (but-freed-picked (λ v. when (test v) v) (λ v h. rw (pass v h))))
 
   -- what ageing takes away is freeable
   unspared : (test : ℕ → Bool) (v : Version K R) → not (spared test reports v) ≡ true → Freeable reports v
@@ -66,12 +66,12 @@ module _ {K R : Type 0} (reports : List Report) (all here : List (Version K R)) 
   -- after ageing
   pub but-freed-aged : (test : ℕ → Bool) → All-but-freed reports all (kept-by (spared test reports) here)
   but-freed-aged test = record {
-      freed = gone ++ w .freed;
-      listed =
+    freed = gone ++ w .freed;
+    listed =
         then (perm-eq (kept-by (spared test reports) here ++ (gone ++ w .freed)) ((kept-by (spared test reports) here ++ gone) ++ w .freed) (sym (append-assoc (kept-by (spared test reports) here) gone (w .freed))))
-          (then (perm-append-right (w .freed) (kept-both (spared test reports) here)) (w .listed));
-      freeable = all-append (Freeable reports) gone (w .freed) (all-weaker (λ v. not (spared test reports v) ≡ true) (Freeable reports) (unspared test) gone (kept-by-passes (λ v. not (spared test reports v)) here)) (w .freeable)
-    }
+        (then (perm-append-right (w .freed) (kept-both (spared test reports) here)) (w .listed));
+    freeable = all-append (Freeable reports) gone (w .freed) (all-weaker (λ v. not (spared test reports v) ≡ true) (Freeable reports) (unspared test) gone (kept-by-passes (λ v. not (spared test reports v)) here)) (w .freeable);
+  }
     where
       gone : List (Version K R)
       gone = kept-by (λ v. not (spared test reports v)) here

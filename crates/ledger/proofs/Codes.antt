@@ -19,8 +19,8 @@ abbrev pub refusal-of : Code → Refusal
 refusal-of c =
     let is = eqb (c .number) in
     cond (is 3) WrongShelf
-      (cond (is 4) NotOpen
-        (cond (is 5) TooManyOpen (cond (is 6) OutOfTickets (cond (is 7) (Held (getD (c .values) 0 0)) (cond (is 8) NothingThere (cond (is 9) RowFull (cond (is 10) StoreFull OutOfStamps)))))))
+    (cond (is 4) NotOpen
+    (cond (is 5) TooManyOpen (cond (is 6) OutOfTickets (cond (is 7) (Held (getD (c .values) 0 0)) (cond (is 8) NothingThere (cond (is 9) RowFull (cond (is 10) StoreFull OutOfStamps)))))))
 
 code-tells : (why : Refusal) → refusal-of (code why) ≡ why
 code-tells WrongShelf = refl

@@ -63,6 +63,7 @@ versions-aborted {K} {R} t ps rs = versions-map (place-aborted t) (λ v. when (n
     freed : (p : PlaceState K) (v : Version K R) (r : R) → version-in p r ≡ Some v → (b : Bool) → version-in {R = R} (cond {A = Place K} b free (record { state = p }) .state) r ≡ when (not b) v
     freed p v r e true = refl
     freed p v r e false = e
+
     each : (p : PlaceState K) (r : R) → version-in (place-aborted t (record { state = p }) .state) r ≡ and-then (version-in p r) (λ v. when (not (drafted-by t v)) v)
     each Free r = refl
     each (Unstamped k j) r = freed (Unstamped k j) (draft j k (Some r)) r refl (eqb j t)
@@ -101,7 +102,7 @@ taken (p ∷ ps) (r ∷ rs) zero h e =
     record {
       lies = r;
       moved = λ q. perm-refl (listed (version-in (q .state) r) ++ versions-in ps rs);
-      filled = λ q r′. perm-refl (listed (version-in (q .state) r′) ++ versions-in ps rs)
+      filled = λ q r′. perm-refl (listed (version-in (q .state) r′) ++ versions-in ps rs);
     }
 taken (p ∷ ps) (r ∷ rs) (suc n) h e =
     let t = taken ps rs n (omega arith) (omega arith) in
@@ -110,7 +111,7 @@ taken (p ∷ ps) (r ∷ rs) (suc n) h e =
     record {
       lies = t .lies;
       moved = λ q. perm-shift here (listed (version-in (q .state) (t .lies))) rest (versions-in (set ps n q) rs) (t .moved q);
-      filled = λ q r′. perm-shift here (listed (version-in (q .state) r′)) rest (versions-in (set ps n q) (set rs n r′)) (t .filled q r′)
+      filled = λ q r′. perm-shift here (listed (version-in (q .state) r′)) rest (versions-in (set ps n q) (set rs n r′)) (t .filled q r′);
     }
 
 -- a free place holds nothing, so nothing goes when it is taken
@@ -143,6 +144,7 @@ wanted-le {K} {R} reports (p ∷ ps) (r ∷ rs) = go (is-wanted reports (p .stat
   where
     both : countBy (wanted reports) (listed (version-in (p .state) r) ++ versions-in ps rs) ≡ countBy (wanted reports) (listed (version-in (p .state) r)) + countBy (wanted reports) (versions-in ps rs)
     both = sumBy-append (λ v. cond (wanted reports v) 1 0) (listed (version-in (p .state) r)) (versions-in ps rs)
+
     go : (b : Bool) → countBy (wanted reports) (listed (version-in (p .state) r)) ≡ cond b 1 0 → countBy (wanted reports) (versions-in ps rs) ≤ length ps → countBy (wanted reports) (listed (version-in (p .state) r) ++ versions-in ps rs) ≤ suc (length ps)
     go true e h = omega (arith, both)
     go false e h = omega (arith, both)
@@ -155,6 +157,7 @@ full-is {K} {R} reports (p ∷ ps) (r ∷ rs) e =
   where
     both : countBy (wanted reports) (listed (version-in (p .state) r) ++ versions-in ps rs) ≡ countBy (wanted reports) (listed (version-in (p .state) r)) + countBy (wanted reports) (versions-in ps rs)
     both = sumBy-append (λ v. cond (wanted reports v) 1 0) (listed (version-in (p .state) r)) (versions-in ps rs)
+
     go : (b : Bool) → countBy (wanted reports) (listed (version-in (p .state) r)) ≡ cond b 1 0 → (c : Bool) → eqb (countBy (wanted reports) (versions-in ps rs)) (length ps) ≡ c → all-wanted reports ps ≡ eqb (countBy (wanted reports) (versions-in ps rs)) (length ps) → countBy (wanted reports) (versions-in ps rs) ≤ length ps → (b && all-wanted reports ps) ≡ eqb (countBy (wanted reports) (listed (version-in (p .state) r) ++ versions-in ps rs)) (suc (length ps))
     go true e true ec ih h = ih ∙ (ec ∙ sym (eq-eqb (countBy (wanted reports) (listed (version-in (p .state) r) ++ versions-in ps rs)) (suc (length ps)) (omega (arith, both, eqb-true (countBy (wanted reports) (versions-in ps rs)) (length ps) ec))))
     go true e false ec ih h = ih ∙ (ec ∙ sym (ne-eqb (countBy (wanted reports) (listed (version-in (p .state) r) ++ versions-in ps rs)) (suc (length ps)) (λ z. eqb-false (countBy (wanted reports) (versions-in ps rs)) (length ps) ec (omega (arith, both)))))

@@ -200,4 +200,3 @@ first-perm {X} {Y} f (swap {x} {y} {xs} {ys} p) h =
     first-swap (f x) (f y) (first f xs) (omega (arith, sumBy-cons (λ x. cond (found f x) 1 0) x (y ∷ xs), sumBy-cons (λ x. cond (found f x) 1 0) y xs))
     ∙ ap (λ o. or-else (f y) (or-else (f x) o)) (first-perm f p (omega (arith, sumBy-cons (λ x. cond (found f x) 1 0) x (y ∷ xs), sumBy-cons (λ x. cond (found f x) 1 0) y xs)))
 first-perm f (then {xs} {ys} p q) h = first-perm f p h ∙ first-perm f q (subst (λ n. n ≤ 1) (perm-sum (λ x. cond (found f x) 1 0) p) h)
-

@@ -83,6 +83,7 @@ module _ {K R : Type 0} (order : K → K → Ordering) (tot : Total order) where
       same-draft-state q j h d =
           let parts = and-parts (eqb j t) (same order q k) h in
           λ i. draft-state (eqb-true j t (parts .0) i) (same-is order tot q k (parts .1) i) d
+
       go : (own : Bool) (p : PlaceState K) → cond own (is-draft-of t p && carries order k p) (is-free p) ≡ true → (d : Option R) → next p (draft-event t k d) ≡ draft-state t k d
       go false Free h (Some r) = refl
       go false Free h None = refl
@@ -130,15 +131,18 @@ module _ {K R : Type 0} (order : K → K → Ordering) (tot : Total order) where
       room-old : (d : Version K R) (rest : List (Version K R)) → isSome (draft-in order t k d) ≡ true → Perm (summary s .versions) (d ∷ rest) → All-but-freed (b .control .reports) (kept-by others (b .versions)) rest
       room-old d rest has p =
           but-freed-perm (b .control .reports) (kept-by others (b .versions)) (kept-by others (summary s .versions))
-            (but-freed-kept (b .control .reports) (b .versions) (summary s .versions) (a .versions) others (λ v h. rw (freeable-no-draft order (b .control .reports) t k v h)))
-            rest (then (perm-eq rest (kept-by others rest) (sym (kept-all others rest alone))) (then (perm-eq (kept-by others rest) (kept-by others (d ∷ rest)) (rw has)) (perm-kept others (d ∷ rest) (summary s .versions) (perm-sym p))))
+          (but-freed-kept (b .control .reports) (b .versions) (summary s .versions) (a .versions) others (λ v h. rw (freeable-no-draft order (b .control .reports) t k v h)))
+          rest (then (perm-eq rest (kept-by others rest) (sym (kept-all others rest alone))) (then (perm-eq (kept-by others rest) (kept-by others (d ∷ rest)) (rw has)) (perm-kept others (d ∷ rest) (summary s .versions) (perm-sym p))))
         where
           one : _≡_ {A = ℕ} (cond (found (draft-in order t k) d) 1 0) 1
           one = rw has
+
           f : Version K R → ℕ
           f v = cond (found (draft-in order t k) v) 1 0
+
           none : countBy (found (draft-in order t k)) rest ≡ 0
           none = omega (arith, one, so .one-draft t k, perm-sum f (a .versions .listed), sumBy-append f (summary s .versions) (a .versions .freed), perm-sum f p, sumBy-cons f d rest)
+
           alone : All (λ v. others v ≡ true) rest
           alone = all-weaker (λ v. found (draft-in order t k) v ≡ false) (λ v. others v ≡ true) (λ v h. rw h) rest (all-none (found (draft-in order t k)) rest none)
 
@@ -148,14 +152,15 @@ module _ {K R : Type 0} (order : K → K → Ordering) (tot : Total order) where
         where
           found-places : Bool → Bool → List (Place K)
           found-places d x = cond (d || x) (s .places) (map (place-aged (λ f. true) (s .control .reports)) (s .places))
+
           go : (d : Bool) → has-draft order t k (summary s .versions) ≡ d → (x : Bool) → cond d (is-draft-of t (getD (found-places d x) n free .state) && carries order k (getD (found-places d x) n free .state)) (is-free (getD (found-places d x) n free .state)) ≡ true → All-but-freed (b .control .reports) (kept-by others (b .versions)) (versions-in (set (found-places d x) n free) (s .shelf))
           go true ed x h′ =
               let tk = taken (s .places) (s .shelf) n (h .0) lengths in
               let rest = versions-in (set (s .places) n free) (s .shelf) in
               let own = holds-draft t k (getD (s .places) n free .state) (tk .lies) h′ in
               room-old (own .0) rest (own .2)
-                (subst (λ o. Perm (summary s .versions) (listed o ++ rest)) (own .1)
-                  (subst (λ ps. Perm (versions-in ps (s .shelf)) (listed (version-in (getD (s .places) n free .state) (tk .lies)) ++ rest)) (set-getD (s .places) n free) (tk .moved (getD (s .places) n free))))
+              (subst (λ o. Perm (summary s .versions) (listed o ++ rest)) (own .1)
+              (subst (λ ps. Perm (versions-in ps (s .shelf)) (listed (version-in (getD (s .places) n free .state) (tk .lies)) ++ rest)) (set-getD (s .places) n free) (tk .moved (getD (s .places) n free))))
           go false ed true h′ = room-new (versions-in (set (s .places) n free) (s .shelf)) ed (rw (versions-free (s .places) (s .shelf) n h′) (a .versions))
           go false ed false h′ =
               let old = map (place-aged (λ f. true) (s .control .reports)) (s .places) in
@@ -195,37 +200,38 @@ module _ {K R : Type 0} (order : K → K → Ordering) (tot : Total order) where
           places = ap length at-place ∙ (length-set (ready order s t k) (m .0) put ∙ (ready-length t k ∙ a .places));
           shelf = ap length (m .3) ∙ shelved-length d (m .0);
           versions = rw (at-place, m .3)
-            (but-freed-perm (b .control .reports) (draft t k d ∷ kept-by (others t k) (b .versions)) (draft t k d ∷ versions-in (set (ready order s t k) (m .0) free) (s .shelf))
+              (but-freed-perm (b .control .reports) (draft t k d ∷ kept-by (others t k) (b .versions)) (draft t k d ∷ versions-in (set (ready order s t k) (m .0) free) (s .shelf))
               (but-freed-cons (b .control .reports) (kept-by (others t k) (b .versions)) (versions-in (set (ready order s t k) (m .0) free) (s .shelf)) (room t k (m .0) (m .1)) (draft t k d))
-              (versions-in (set (ready order s t k) (m .0) put) (shelved d (m .0) (s .shelf))) (with-draft t k (m .0) (m .1) d))
+              (versions-in (set (ready order s t k) (m .0) put) (shelved d (m .0) (s .shelf))) (with-draft t k (m .0) (m .1) d));
         }
     moved (commits t) ps rs m = record {
-        places = ap length (m .0) ∙ (length-map (s .places) (place-settled t (s .control .stamp + 1) (λ k. has-draft order t k (summary s .versions))) ∙ a .places);
-        shelf = ap length (m .1) ∙ a .shelf;
-        versions = rw (m .0, m .1, versions-settled order t (s .control .stamp + 1) (λ k. has-draft order t k (summary s .versions)) (s .places) (s .shelf), ap (λ c. c .stamp) (a .control), same-written)
-          (but-freed-picked (b .control .reports) (b .versions) (summary s .versions) (a .versions) (settled order t (b .control .stamp + 1) (λ k. has-draft order t k (b .versions))) (settled-alone t (b .control .stamp + 1) (λ k. has-draft order t k (b .versions))))
-      }
+      places = ap length (m .0) ∙ (length-map (s .places) (place-settled t (s .control .stamp + 1) (λ k. has-draft order t k (summary s .versions))) ∙ a .places);
+      shelf = ap length (m .1) ∙ a .shelf;
+      versions = rw (m .0, m .1, versions-settled order t (s .control .stamp + 1) (λ k. has-draft order t k (summary s .versions)) (s .places) (s .shelf), ap (λ c. c .stamp) (a .control), same-written)
+          (but-freed-picked (b .control .reports) (b .versions) (summary s .versions) (a .versions) (settled order t (b .control .stamp + 1) (λ k. has-draft order t k (b .versions))) (settled-alone t (b .control .stamp + 1) (λ k. has-draft order t k (b .versions))));
+    }
       where
         same-written : _≡_ {A = K → Bool} (λ k. has-draft order t k (summary s .versions)) (λ k. has-draft order t k (b .versions))
         same-written = fun-ext (λ k. ap isSome (same-draft order b s a so t k))
+
         settled-alone : (t stamp : ℕ) (written : K → Bool) (v : Version K R) → Freeable (b .control .reports) v → settled order t stamp written v ≡ Some v
         settled-alone t stamp written (draft j k d) h = never false refl (h .0)
         settled-alone t stamp written (committed k r b None) h = never false refl (h .0)
         settled-alone t stamp written (committed k r b (Some f)) h = refl
     moved (aborts t) ps rs m = record {
-        places = ap length (m .0) ∙ (length-map (s .places) (place-aborted t) ∙ a .places);
-        shelf = ap length (m .1) ∙ a .shelf;
-        versions = rw (m .0, m .1, versions-aborted t (s .places) (s .shelf)) (but-freed-kept (b .control .reports) (b .versions) (summary s .versions) (a .versions) (λ v. not (drafted-by t v)) not-drafted)
-      }
+      places = ap length (m .0) ∙ (length-map (s .places) (place-aborted t) ∙ a .places);
+      shelf = ap length (m .1) ∙ a .shelf;
+      versions = rw (m .0, m .1, versions-aborted t (s .places) (s .shelf)) (but-freed-kept (b .control .reports) (b .versions) (summary s .versions) (a .versions) (λ v. not (drafted-by t v)) not-drafted);
+    }
       where
         not-drafted : (v : Version K R) → Freeable (b .control .reports) v → not (drafted-by t v) ≡ true
         not-drafted (draft j k d) h = never false refl (h .0)
         not-drafted (committed k r b f) h = refl
     moved (ages limit) ps rs m = record {
-        places = ap length (m .0) ∙ (length-map (s .places) (place-aged (λ f. ltb f limit) (s .control .reports)) ∙ a .places);
-        shelf = ap length (m .1) ∙ a .shelf;
-        versions = rw (m .0, m .1) (aged-versions (λ f. ltb f limit))
-      }
+      places = ap length (m .0) ∙ (length-map (s .places) (place-aged (λ f. ltb f limit) (s .control .reports)) ∙ a .places);
+      shelf = ap length (m .1) ∙ a .shelf;
+      versions = rw (m .0, m .1) (aged-versions (λ f. ltb f limit));
+    }
 
   -- what is freeable stays so when a report begins at the stamp, and when one ends
   still-freeable : (b : Summary K R) (c : Call K R) (v : Version K R) → In-time (control-after order b c .stamp) v → Freeable (b .control .reports) v → Freeable (control-after order b c .reports) v
@@ -258,7 +264,7 @@ module _ {K R : Type 0} (order : K → K → Ordering) (tot : Total order) where
           freed = w .versions .freed;
           listed = w .versions .listed;
           freeable = all-both (In-time (control-after order b c .stamp)) (Freeable (b .control .reports)) (Freeable (control-after order b c .reports)) (still-freeable b c) (w .versions .freed)
-            (all-append-parts (In-time (control-after order b c .stamp)) (versions-in (s′ .places) (s′ .shelf)) (w .versions .freed) (perm-all (In-time (control-after order b c .stamp)) (perm-sym (w .versions .listed)) (sound-after order tot b None c so .in-time)) .1)
-            (w .versions .freeable)
-        }
+              (all-append-parts (In-time (control-after order b c .stamp)) (versions-in (s′ .places) (s′ .shelf)) (w .versions .freed) (perm-all (In-time (control-after order b c .stamp)) (perm-sym (w .versions .listed)) (sound-after order tot b None c so .in-time)) .1)
+              (w .versions .freeable);
+        };
       }

@@ -49,7 +49,7 @@ placed test reports [] rs = tt
 placed test reports (p ∷ ps) [] = tt
 placed {K} {R} test reports (p ∷ ps) (r ∷ rs) =
     all-append (Placed reports (map (place-aged test reports) (p ∷ ps)) (r ∷ rs)) (listed (version-in (p .state) r)) (versions-in ps rs) (here (p .state))
-      (all-weaker (Placed reports (map (place-aged test reports) ps) rs) (Placed reports (map (place-aged test reports) (p ∷ ps)) (r ∷ rs)) (placed-later reports (map (place-aged test reports) ps) rs (place-aged test reports p) r) (versions-in ps rs) (placed test reports ps rs))
+    (all-weaker (Placed reports (map (place-aged test reports) ps) rs) (Placed reports (map (place-aged test reports) (p ∷ ps)) (r ∷ rs)) (placed-later reports (map (place-aged test reports) ps) rs (place-aged test reports p) r) (versions-in ps rs) (placed test reports ps rs))
   where
     here : (q : PlaceState K) → All (Placed reports (place-aged test reports (record { state = q }) ∷ map (place-aged test reports) ps) (r ∷ rs)) (listed (version-in q r))
     here Free = tt
@@ -71,6 +71,7 @@ still {K} test reports (p ∷ ps) zero k b f e t = here (p .state) (ap state-of 
     state-of : Option (Place K) → PlaceState K
     state-of None = Free
     state-of (Some p) = p .state
+
     here : (q : PlaceState K) → place-aged test reports (record { state = q }) .state ≡ Superseded k b f → in-report reports b f ≡ true
     here Free e = differ cc
     here (Unstamped q j) e = differ cc
@@ -87,22 +88,27 @@ module _ {K R : Type 0} (order : K → K → Ordering) (tot : Total order) where
   aged-rightly : (b : Summary K R) (before s : State K R) (limit : ℕ) → Agrees b before → s .places ≡ map (place-aged (λ f. ltb f limit) (before .control .reports)) (before .places) → s .shelf ≡ before .shelf → All (Kept-or-freed (ledger-of b) s limit) (b .versions)
   aged-rightly b before s limit a ep es =
       perm-all (Kept-or-freed (ledger-of b) s limit) (a .versions .listed)
-        (all-append (Kept-or-freed (ledger-of b) s limit) (versions-in (before .places) (before .shelf)) (a .versions .freed)
-          (all-weaker (Placed reports (map (place-aged test reports) (before .places)) (before .shelf)) (Kept-or-freed (ledger-of b) s limit) kept (versions-in (before .places) (before .shelf)) (placed test reports (before .places) (before .shelf)))
-          (all-weaker (Freeable (b .control .reports)) (Kept-or-freed (ledger-of b) s limit) gone (a .versions .freed) (a .versions .freeable)))
+      (all-append (Kept-or-freed (ledger-of b) s limit) (versions-in (before .places) (before .shelf)) (a .versions .freed)
+      (all-weaker (Placed reports (map (place-aged test reports) (before .places)) (before .shelf)) (Kept-or-freed (ledger-of b) s limit) kept (versions-in (before .places) (before .shelf)) (placed test reports (before .places) (before .shelf)))
+      (all-weaker (Freeable (b .control .reports)) (Kept-or-freed (ledger-of b) s limit) gone (a .versions .freed) (a .versions .freeable)))
     where
       reports : List Report
       reports = before .control .reports
+
       test : ℕ → Bool
       test f = ltb f limit
+
       same-reports : before .control .reports ≡ b .control .reports
       same-reports = ap (λ c. c .reports) (a .control)
+
       wants : (k : K) (x : R) (b′ f : ℕ) → f < limit → Has-place s k x b′ f → in-report (b .control .reports) b′ f ≡ true
       wants k x b′ f l h = rw (← same-reports) (still test reports (before .places) (h .0) k b′ f (rw ep at (h .1)) (lt-ltb f limit l))
+
       kept : (v : Version K R) → Placed reports (map (place-aged test reports) (before .places)) (before .shelf) v → Kept-or-freed (ledger-of b) s limit v
       kept (draft j k d) h = tt
       kept (committed k x b′ None) h = tt
       kept (committed k x b′ (Some f)) h = λ l. (wants k x b′ f l, λ w. let m = h (rw same-reports w) in (m .0, rw ep (m .1), rw es (m .2)))
+
       gone : (v : Version K R) → Freeable (b .control .reports) v → Kept-or-freed (ledger-of b) s limit v
       gone (draft j k d) h = tt
       gone (committed k x b′ None) h = tt

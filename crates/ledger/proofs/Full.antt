@@ -47,6 +47,7 @@ module _ {K R : Type 0} (order : K → K → Ordering) where
     where
       P : Code → Type 0
       P c = c .number ≡ 10 → ⊥
+
       known : Known P
       known = record { shelf = λ z. differ cc; ticket = λ z. differ cc; too-many = λ z. differ cc; number = λ z. differ cc; holder = λ t z. differ cc; absent = λ z. differ cc; row = λ z. differ cc; stamp = λ z. differ cc }
 
@@ -56,10 +57,13 @@ module _ {K R : Type 0} (order : K → K → Ordering) where
     where
       counted : {X Y : Type 0} → (X ↔ (Y × (full b ≡ true))) → X ↔ (Y × (countBy (wanted (b .control .reports)) (b .versions) ≡ b .places))
       counted i = (λ x. let p = i .0 x in (p .0, eqb-true (countBy (wanted (b .control .reports)) (b .versions)) (b .places) (p .1)), λ p. i .1 (p .0, eq-eqb (countBy (wanted (b .control .reports)) (b .versions)) (b .places) (p .1)))
+
       none-needed : (c : Call K R) (n : ℕ) {Y : Type 0} → ((t : ℕ) (k : K) (d : Option R) → change c ≡ drafts t k d → ⊥) → (met order b c n ≡ Some (plain 10)) ↔ (⊥ × Y)
       none-needed c n none = (λ h. absurd (not-ten b c n none h), λ p. absurd (p .0))
+
       Early : Code → Type 0
       Early c = refused-earlier (Some c) ≡ true
+
       go : (c : Call K R) (n : ℕ) → refused-earlier (met order b c n) ≡ false → (met order b c n ≡ Some (plain 10)) ↔ (Needs-place order (b .versions) (change c) × (countBy (wanted (b .control .reports)) (b .versions) ≡ b .places))
       go (Walk t from) n e = none-needed (Walk t from) n (λ t k d h. differ cc)
       go (Basic BeginReport) n e = none-needed (Basic BeginReport) n (λ t k d h. differ cc)
@@ -68,12 +72,12 @@ module _ {K R : Type 0} (order : K → K → Ordering) where
       go (Basic (Look t k)) n e = none-needed (Basic (Look t k)) n (λ t k d h. differ cc)
       go (Basic (Put t k r)) n e =
           counted (last-check (job-open order b t ∷ shelf-fits order b n ∷ not-held order b t k ∷ row-left order b t k ∷ [])
-            (tells-when Early (plain 4) refl _, (tells-when Early (plain 3) refl _, (tells-holder Early (λ t. refl) _, (tells-when Early (plain 9) refl _, tt))))
-            (has-draft order (t .number) k (b .versions)) (full b) e)
+          (tells-when Early (plain 4) refl _, (tells-when Early (plain 3) refl _, (tells-holder Early (λ t. refl) _, (tells-when Early (plain 9) refl _, tt))))
+          (has-draft order (t .number) k (b .versions)) (full b) e)
       go (Basic (Remove t k)) n e =
           counted (last-check (job-open order b t ∷ not-held order b t k ∷ something-there order b t k ∷ row-left order b t k ∷ [])
-            (tells-when Early (plain 4) refl _, (tells-holder Early (λ t. refl) _, (tells-when Early (plain 8) refl _, (tells-when Early (plain 9) refl _, tt))))
-            (has-draft order (t .number) k (b .versions)) (full b) e)
+          (tells-when Early (plain 4) refl _, (tells-holder Early (λ t. refl) _, (tells-when Early (plain 8) refl _, (tells-when Early (plain 9) refl _, tt))))
+          (has-draft order (t .number) k (b .versions)) (full b) e)
       go (Basic (Commit t)) n e = none-needed (Basic (Commit t)) n (λ t k d h. differ cc)
       go (Basic (Abort t)) n e = none-needed (Basic (Abort t)) n (λ t k d h. differ cc)
       go (Basic (End t)) n e = none-needed (Basic (End t)) n (λ t k d h. differ cc)
@@ -98,6 +102,7 @@ module _ {K R : Type 0} (order : K → K → Ordering) (tot : Total order) where
     where
       b : Summary K R
       b = model-of order tot o past
+
       go : (m : Option Code) → Outcome order m (r .0) e s → refusal (e .answer) ≡ m
       go (Some why) h = h .answer
       go None h = ap refusal (h .answer) ∙ answered-granted order (summary (r .0)) (e .call)

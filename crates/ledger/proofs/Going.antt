@@ -76,8 +76,10 @@ module _ {K R : Type 0} (order : K → K → Ordering) where
       one : {X : Type 0} (b : Bool) (x : X) (o : Option X) (c : Bool) → isSome o ≡ c → isSome (or-else (when b x) o) ≡ (b || c)
       one true x o c e = refl
       one false x o c e = e
+
       rest : Bool
       rest = any (λ p. is-draft-of t (p .state) && carries order k (p .state)) ps
+
       go : (q : PlaceState K) → has-draft order t k (versions-in ps rs) ≡ any (λ p. is-draft-of t (p .state) && carries order k (p .state)) ps → has-draft order t k (listed (version-in q r) ++ versions-in ps rs) ≡ ((is-draft-of t q && carries order k q) || any (λ p. is-draft-of t (p .state) && carries order k (p .state)) ps)
       go Free i = i
       go (Unstamped q j) i = one (eqb j t && same order q k) (Some r) (draft-at order t k (versions-in ps rs)) rest i
@@ -91,6 +93,7 @@ module _ {K R : Type 0} (order : K → K → Ordering) where
     where
       found-places : Bool → Bool → List (Place K)
       found-places d x = cond (d || x) (s .places) (map (place-aged (λ f. true) (s .control .reports)) (s .places))
+
       go : (d : Bool) → has-draft order t k (summary s .versions) ≡ d → (x : Bool) → any (λ p. is-free (p .state)) (s .places) ≡ x → (not d && all-wanted (s .control .reports) (s .places)) ≡ false → (n : ℕ) × ((n < length (s .places)) × (cond d (is-draft-of t (getD (found-places d x) n free .state) && carries order k (getD (found-places d x) n free .state)) (is-free (getD (found-places d x) n free .state)) ≡ true))
       go true ed x ex h = let c = some-place (λ p. is-draft-of t p && carries order k p) (s .places) (sym (draft-in-place t k (s .places) (s .shelf) el) ∙ ed) in (c .0, (c .1, c .2))
       go false ed true ex h = let c = some-place is-free (s .places) ex in (c .0, (c .1, c .2))
@@ -118,8 +121,10 @@ module _ {K R : Type 0} (order : K → K → Ordering) where
     where
       pass : (c : Call K R) → sent-back order (all-wanted (s .control .reports) (s .places)) (summary s) c n ≡ None → All (λ check. check ≡ None) (checks order (all-wanted (s .control .reports) (s .places)) (summary s) c n)
       pass c h = none-found (λ check. check) (checks order (all-wanted (s .control .reports) (s .places)) (summary s) c n) h
+
       at-key : (t′ : ℕ) (k′ : K) (d′ : Option R) → drafts t′ k′ d′ ≡ drafts t k d → (not (has-draft order t′ k′ (summary s .versions)) && all-wanted (s .control .reports) (s .places)) ≡ false → (not (has-draft order t k (summary s .versions)) && all-wanted (s .control .reports) (s .places)) ≡ false
       at-key t′ k′ d′ e h = let et : t′ ≡ t = cc in let ek : k′ ≡ k = cc in rw (← et, ← ek) h
+
       go : (c : Call K R) → sent-back order (all-wanted (s .control .reports) (s .places)) (summary s) c n ≡ None → change c ≡ drafts t k d → (not (has-draft order t k (summary s .versions)) && all-wanted (s .control .reports) (s .places)) ≡ false
       go (Walk t from) h e = differ cc
       go (Basic BeginReport) h e = differ cc

@@ -100,9 +100,11 @@ module _ {K R : Type 0} (order : K → K → Ordering) (tot : Total order) where
     where
       b : Summary K R
       b = model-of order tot o past
+
       unchanged : (x : Bool) → cond x (ledger-of b) (ledger-of b) ≡ ledger-of b
       unchanged true = refl
       unchanged false = refl
+
       go : (x : Bool) → is-age (change (e .call)) ≡ x → cond (granted (e .answer)) (noted order (ledger-of b) (e .call) (e .answer)) (ledger-of b) ≡ ledger-of (next-model order b (e .call) (e .shelf))
       go false y = rw (run-answers order tot o e past s r y) (replied-noted b (e .call) (met order b (e .call) (e .shelf)))
       go true y =

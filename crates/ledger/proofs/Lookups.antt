@@ -26,6 +26,7 @@ first-record {X} {R} f (x ∷ xs) d c e = go (f x) refl e (λ c′ e′. first-r
   where
     total : countBy (found f) (x ∷ xs) ≡ cond (found f x) 1 0 + countBy (found f) xs
     total = sumBy-cons (λ x. cond (found f x) 1 0) x xs
+
     rest-none : (ys : List X) → All (λ y. found f y ≡ false) ys → first (λ x. draft-record (f x)) ys ≡ None
     rest-none [] a = refl
     rest-none (y ∷ ys) a = alone (f y) (a .0) (rest-none ys (a .1))
@@ -33,6 +34,7 @@ first-record {X} {R} f (x ∷ xs) d c e = go (f x) refl e (λ c′ e′. first-r
         alone : (o : Option (Option R)) → isSome o ≡ false → first (λ x. draft-record (f x)) ys ≡ None → or-else (draft-record o) (first (λ x. draft-record (f x)) ys) ≡ None
         alone None p q = q
         alone (Some d) p q = never true p refl
+
     go : (o : Option (Option R)) → f x ≡ o → or-else o (first f xs) ≡ Some d → (countBy (found f) xs ≤ 1 → first f xs ≡ Some d → first (λ x. draft-record (f x)) xs ≡ d) → or-else (draft-record (f x)) (first (λ x. draft-record (f x)) xs) ≡ d
     go None ef e rec = let z : _≡_ {A = ℕ} (cond (found f x) 1 0) 0 = rw ef in rw ef (rec (omega (arith, total)) e)
     go (Some None) ef e rec =
@@ -50,10 +52,13 @@ module _ {K R : Type 0} (order : K → K → Ordering) (tot : Total order) where
     where
       replaced : (eqb i t && same order x k) ≡ true
       replaced = sym (found-when (eqb i t && same order x k) d) ∙ not-false (isSome (when (eqb i t && same order x k) d)) h
+
       it : i ≡ t
       it = eqb-true i t (and-parts (eqb i t) (same order x k) replaced .0)
+
       xk : x ≡ k
       xk = same-is order tot x k (and-parts (eqb i t) (same order x k) replaced .1)
+
       go : (y : Bool) → eqb i j ≡ y → (z : Bool) → same order x q ≡ z → when (y && z) d ≡ None
       go true ey true ez = never (eqb t j && same order k q) ne (and-from (eqb t j) (same order k q) (subst (λ v. eqb v j ≡ true) it ey) (subst (λ v. same order v q ≡ true) xk ez))
       go true ey false ez = refl
@@ -116,7 +121,7 @@ module _ {K R : Type 0} (order : K → K → Ordering) (tot : Total order) where
     pub draft-settled : (j : ℕ) (k : K) → (j ≡ t → ⊥) → draft-at order j k (settled-all order t stamp vs) ≡ draft-at order j k vs
     draft-settled j k ne =
         first-picked (draft-in order j k) (draft-in order j k) g vs
-          (all-of (λ v. and-then (g v) (draft-in order j k) ≡ draft-in order j k v) (λ v. settled-draft order tot t stamp (λ k. has-draft order t k vs) j k v ∙ cond-false (eqb j t) None (draft-in order j k v) (ne-eqb j t ne)) vs)
+        (all-of (λ v. and-then (g v) (draft-in order j k) ≡ draft-in order j k v) (λ v. settled-draft order tot t stamp (λ k. has-draft order t k vs) j k v ∙ cond-false (eqb j t) None (draft-in order j k v) (ne-eqb j t ne)) vs)
 
     pub seen-settled : (s : ℕ) (k : K) → s < stamp → seen-at order s k (settled-all order t stamp vs) ≡ seen-at order s k vs
     seen-settled s k h =
@@ -128,8 +133,8 @@ module _ {K R : Type 0} (order : K → K → Ordering) (tot : Total order) where
         go : (o : Option (Option R)) → draft-at order t k vs ≡ o → first (current-in order k) (picked g vs) ≡ valueOr o (current-at order k vs)
         go None e =
             first-picked (current-in order k) (current-in order k) g vs
-              (all-weaker (λ v. draft-in order t k v ≡ None) (λ v. and-then (g v) (current-in order k) ≡ current-in order k v) (settled-elsewhere order tot t stamp (λ k. has-draft order t k vs) k (ap isSome e)) vs (none-found (draft-in order t k) vs e))
+            (all-weaker (λ v. draft-in order t k v ≡ None) (λ v. and-then (g v) (current-in order k) ≡ current-in order k v) (settled-elsewhere order tot t stamp (λ k. has-draft order t k vs) k (ap isSome e)) vs (none-found (draft-in order t k) vs e))
         go (Some d) e =
             first-picked (current-in order k) (λ v. draft-record (draft-in order t k v)) g vs
-              (all-of (λ v. and-then (g v) (current-in order k) ≡ draft-record (draft-in order t k v)) (settled-there order tot t stamp (λ k. has-draft order t k vs) k (ap isSome e)) vs)
+            (all-of (λ v. and-then (g v) (current-in order k) ≡ draft-record (draft-in order t k v)) (settled-there order tot t stamp (λ k. has-draft order t k vs) k (ap isSome e)) vs)
             ∙ first-record (draft-in order t k) vs d one e

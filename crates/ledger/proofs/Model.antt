@@ -112,7 +112,7 @@ module _ {K R : Type 0} (order : K → K → Ordering) where
   pub one-current : (stamp : ℕ) (k : K) (vs : List (Version K R)) → Sound order stamp vs → countBy (found (current-in order k)) vs ≤ 1
   one-current stamp k vs so =
       let m = sum-mono (λ v. cond (found (current-in order k) v) 1 0) (λ v. cond (found (seen-in order stamp k) v) 1 0) vs
-                (all-weaker (In-time stamp) (λ v. cond (found (current-in order k) v) 1 0 ≤ cond (found (seen-in order stamp k) v) 1 0) (λ v h. rw (current-is-seen-in stamp k v h) (omega arith)) vs (so .in-time)) in
+      (all-weaker (In-time stamp) (λ v. cond (found (current-in order k) v) 1 0 ≤ cond (found (seen-in order stamp k) v) 1 0) (λ v h. rw (current-is-seen-in stamp k v h) (omega arith)) vs (so .in-time)) in
       omega (arith, so .one-seen stamp k)
 
   -- the store agrees with the model

@@ -28,14 +28,16 @@ module _ {K R : Type 0} (order : K → K → Ordering) (tot : Total order) where
     where
       here : List (Version K R)
       here = versions-in (s .places) (s .shelf)
+
       fewer : {Y : Type 0} (f : Version K R → Option Y) (b : Summary K R) (a : Agrees b s) → countBy (found f) (b .versions) ≤ 1 → countBy (found f) here ≤ 1
       fewer f b a h = omega (arith, perm-sum (λ v. cond (found f v) 1 0) (a .versions .listed), sumBy-append (λ v. cond (found f v) 1 0) here (a .versions .freed))
+
       go : (b : Summary K R) → Agrees b s → Sound order (b .control .stamp) (b .versions) → Sound order (s .control .stamp) (versions-in (s .places) (s .shelf))
       go b a so = record {
-          one-draft = λ t k. fewer (draft-in order t k) b a (so .one-draft t k);
-          one-seen = λ st k. fewer (seen-in order st k) b a (so .one-seen st k);
-          in-time = rw (a .control) (all-append-parts (In-time (b .control .stamp)) here (a .versions .freed) (perm-all (In-time (b .control .stamp)) (perm-sym (a .versions .listed)) (so .in-time)) .0)
-        }
+        one-draft = λ t k. fewer (draft-in order t k) b a (so .one-draft t k);
+        one-seen = λ st k. fewer (seen-in order st k) b a (so .one-seen st k);
+        in-time = rw (a .control) (all-append-parts (In-time (b .control .stamp)) here (a .versions .freed) (perm-all (In-time (b .control .stamp)) (perm-sym (a .versions .listed)) (so .in-time)) .0);
+      }
 
   pub reached-lengths : (o : Numbers) (past : List (Exchange K R)) (s : State K R) → Run order o past s → (length (s .places) ≡ o .places) × (length (s .shelf) ≡ o .places)
   reached-lengths o past s r = let a = run-agrees order tot o past s r in (a .places ∙ model-places order tot o past, a .shelf ∙ model-places order tot o past)

@@ -105,7 +105,6 @@ module _ {K R : Type 0} (order : K → K → Ordering) (tot : Total order) where
     pub earlier : All (Earlier (b .control .stamp) (b .control .next)) (b .control .reports)
     pub jobs : (j : ℕ) → open-job j (b .control .jobs) ≡ true → j < b .control .next
 
-
   -- one granted call more
   module _ (b : Summary K R) (past : List (Exchange K R)) (m : Remembers b past) (so : Sound order (b .control .stamp) (b .versions)) where
     -- the call with the model's answer
@@ -144,35 +143,38 @@ module _ {K R : Type 0} (order : K → K → Ordering) (tot : Total order) where
 
     remembers-report : (n : ℕ) → Remembers (moved-on order None b (Basic BeginReport)) (newest (Basic BeginReport) n ∷ past)
     remembers-report n = record {
-        drafts = λ j l k. m .drafts j (older j l) k;
-        current = m .current;
-        seen = all-push (Sees (b .versions) (newest (Basic BeginReport) n ∷ past)) (b .control .reports) begun
+      drafts = λ j l k. m .drafts j (older j l) k;
+      current = m .current;
+      seen = all-push (Sees (b .versions) (newest (Basic BeginReport) n ∷ past)) (b .control .reports) begun
           (all-both (Earlier (b .control .stamp) (b .control .next)) (Sees (b .versions) past) (Sees (b .versions) (newest (Basic BeginReport) n ∷ past)) (λ r h sees k. sees k ∙ new-ticket k r h) (b .control .reports) (m .earlier) (m .seen))
           (λ k. rw (eq-eqb (b .control .next) (b .control .next) refl) (sym (current-is-seen order (b .control .stamp) k (b .versions) (so .in-time)) ∙ m .current k));
-        earlier = all-push (Earlier (b .control .stamp) (b .control .next + 1)) (b .control .reports) begun later-ticket (omega arith);
-        jobs = λ j o. let h = m .jobs j o in omega arith
-      }
+      earlier = all-push (Earlier (b .control .stamp) (b .control .next + 1)) (b .control .reports) begun later-ticket (omega arith);
+      jobs = λ j o. let h = m .jobs j o in omega arith;
+    }
       where
         begun : Report
         begun = record { ticket = b .control .next; stamp = b .control .stamp }
 
     remembers-job : (n : ℕ) → Remembers (moved-on order None b (Basic BeginJob)) (newest (Basic BeginJob) n ∷ past)
     remembers-job n = record {
-        drafts = λ j l k. m .drafts j (live j l) k;
-        current = m .current;
-        seen = all-both (Earlier (b .control .stamp) (b .control .next)) (Sees (b .versions) past) (Sees (b .versions) (newest (Basic BeginJob) n ∷ past)) (λ r h sees k. sees k ∙ new-ticket k r h) (b .control .reports) (m .earlier) (m .seen);
-        earlier = later-ticket;
-        jobs = λ j o. below j (open-push j (b .control .jobs) begun o)
-      }
+      drafts = λ j l k. m .drafts j (live j l) k;
+      current = m .current;
+      seen = all-both (Earlier (b .control .stamp) (b .control .next)) (Sees (b .versions) past) (Sees (b .versions) (newest (Basic BeginJob) n ∷ past)) (λ r h sees k. sees k ∙ new-ticket k r h) (b .control .reports) (m .earlier) (m .seen);
+      earlier = later-ticket;
+      jobs = λ j o. below j (open-push j (b .control .jobs) begun o);
+    }
       where
         begun : Job K
         begun = record { ticket = b .control .next; keys = [] }
+
         pushed : (j : ℕ) → (open-job j (b .control .jobs) ≡ true) ⊎ (b .control .next ≡ j) → Live (b .control) j
         pushed j (inl o) = inl o
         pushed j (inr o) = inr (omega arith)
+
         live : (j : ℕ) → (open-job j (b .control .jobs ++ (begun ∷ [])) ≡ true) ⊎ (b .control .next + 1 ≤ j) → Live (b .control) j
         live j (inl o) = pushed j (open-push j (b .control .jobs) begun o)
         live j (inr o) = inr (omega arith)
+
         below : (j : ℕ) → (open-job j (b .control .jobs) ≡ true) ⊎ (b .control .next ≡ j) → j < b .control .next + 1
         below j (inl o) = let h = m .jobs j o in omega arith
         below j (inr o) = omega arith
@@ -189,21 +191,21 @@ module _ {K R : Type 0} (order : K → K → Ordering) (tot : Total order) where
 
     remembers-commit : (t : TicketId) (n : ℕ) → open-job (t .number) (b .control .jobs) ≡ true → Remembers (moved-on order None b (Basic (Commit t))) (newest (Basic (Commit t)) n ∷ past)
     remembers-commit t n ot = record {
-        drafts = λ j l k. let other = live-but (t .number) j ot l in draft-settled order tot (t .number) (b .control .stamp + 1) (b .versions) j k (other .1) ∙ m .drafts j (other .0) k;
-        current = λ k. current-settled order tot (t .number) (b .control .stamp + 1) (b .versions) k (so .one-draft (t .number) k) ∙ rw (m .drafts (t .number) (inl ot) k, m .current k);
-        seen = sees-after (settled-all order (t .number) (b .control .stamp + 1) (b .versions)) (λ r h k. seen-settled order tot (t .number) (b .control .stamp + 1) (b .versions) (r .stamp) k (let below = h .0 in omega arith));
-        earlier = all-weaker (Earlier (b .control .stamp) (b .control .next)) (Earlier (b .control .stamp + 1) (b .control .next)) (λ r h. omega arith) (b .control .reports) (m .earlier);
-        jobs = λ j o. m .jobs j (open-but (t .number) j (b .control .jobs) o .0)
-      }
+      drafts = λ j l k. let other = live-but (t .number) j ot l in draft-settled order tot (t .number) (b .control .stamp + 1) (b .versions) j k (other .1) ∙ m .drafts j (other .0) k;
+      current = λ k. current-settled order tot (t .number) (b .control .stamp + 1) (b .versions) k (so .one-draft (t .number) k) ∙ rw (m .drafts (t .number) (inl ot) k, m .current k);
+      seen = sees-after (settled-all order (t .number) (b .control .stamp + 1) (b .versions)) (λ r h k. seen-settled order tot (t .number) (b .control .stamp + 1) (b .versions) (r .stamp) k (let below = h .0 in omega arith));
+      earlier = all-weaker (Earlier (b .control .stamp) (b .control .next)) (Earlier (b .control .stamp + 1) (b .control .next)) (λ r h. omega arith) (b .control .reports) (m .earlier);
+      jobs = λ j o. m .jobs j (open-but (t .number) j (b .control .jobs) o .0);
+    }
 
     remembers-abort : (t : TicketId) (n : ℕ) → open-job (t .number) (b .control .jobs) ≡ true → Remembers (moved-on order None b (Basic (Abort t))) (newest (Basic (Abort t)) n ∷ past)
     remembers-abort t n ot = record {
-        drafts = λ j l k. let other = live-but (t .number) j ot l in draft-aborted order tot (t .number) (b .versions) j k (other .1) ∙ m .drafts j (other .0) k;
-        current = λ k. current-aborted order tot (t .number) (b .versions) k ∙ m .current k;
-        seen = sees-after (without-drafts order (t .number) (b .versions)) (λ r h k. seen-aborted order tot (t .number) (b .versions) (r .stamp) k);
-        earlier = m .earlier;
-        jobs = λ j o. m .jobs j (open-but (t .number) j (b .control .jobs) o .0)
-      }
+      drafts = λ j l k. let other = live-but (t .number) j ot l in draft-aborted order tot (t .number) (b .versions) j k (other .1) ∙ m .drafts j (other .0) k;
+      current = λ k. current-aborted order tot (t .number) (b .versions) k ∙ m .current k;
+      seen = sees-after (without-drafts order (t .number) (b .versions)) (λ r h k. seen-aborted order tot (t .number) (b .versions) (r .stamp) k);
+      earlier = m .earlier;
+      jobs = λ j o. m .jobs j (open-but (t .number) j (b .control .jobs) o .0);
+    }
 
     -- a granted call other than age
     pub remembers : (c : Call K R) (n : ℕ) → is-age (change c) ≡ false → met order b c n ≡ None → Remembers (moved-on order None b c) (newest c n ∷ past)
@@ -215,28 +217,28 @@ module _ {K R : Type 0} (order : K → K → Ordering) (tot : Total order) where
         let found = finds-current order (t .number) k (b .versions) in
         record { drafts = λ j l q. m .drafts j (live-held found (t .number) k j l) q; current = m .current; seen = m .seen; earlier = m .earlier; jobs = jobs-held found (t .number) k }
     remembers (Basic (Put t k r)) n y g = record {
-        drafts = λ j l q. drafts-made (t .number) k (Some r) j (live-held true (t .number) k j l) q;
-        current = current-kept (t .number) k (Some r);
-        seen = seen-kept (t .number) k (Some r);
-        earlier = m .earlier;
-        jobs = jobs-held true (t .number) k
-      }
+      drafts = λ j l q. drafts-made (t .number) k (Some r) j (live-held true (t .number) k j l) q;
+      current = current-kept (t .number) k (Some r);
+      seen = seen-kept (t .number) k (Some r);
+      earlier = m .earlier;
+      jobs = jobs-held true (t .number) k;
+    }
     remembers (Basic (Remove t k)) n y g = record {
-        drafts = λ j l q. drafts-made (t .number) k None j (live-held true (t .number) k j l) q;
-        current = current-kept (t .number) k None;
-        seen = seen-kept (t .number) k None;
-        earlier = m .earlier;
-        jobs = jobs-held true (t .number) k
-      }
+      drafts = λ j l q. drafts-made (t .number) k None j (live-held true (t .number) k j l) q;
+      current = current-kept (t .number) k None;
+      seen = seen-kept (t .number) k None;
+      earlier = m .earlier;
+      jobs = jobs-held true (t .number) k;
+    }
     remembers (Basic (Commit t)) n y g = remembers-commit t n (job-is-open order b t (stamp-left order b ∷ []) g)
     remembers (Basic (Abort t)) n y g = remembers-abort t n (job-is-open order b t [] g)
     remembers (Basic (End t)) n y g = record {
-        drafts = m .drafts;
-        current = m .current;
-        seen = all-kept-by (λ r. not (eqb (r .ticket) (t .number))) (Sees (b .versions) past) (b .control .reports) (m .seen);
-        earlier = all-kept-by (λ r. not (eqb (r .ticket) (t .number))) (Earlier (b .control .stamp) (b .control .next)) (b .control .reports) (m .earlier);
-        jobs = m .jobs
-      }
+      drafts = m .drafts;
+      current = m .current;
+      seen = all-kept-by (λ r. not (eqb (r .ticket) (t .number))) (Sees (b .versions) past) (b .control .reports) (m .seen);
+      earlier = all-kept-by (λ r. not (eqb (r .ticket) (t .number))) (Earlier (b .control .stamp) (b .control .next)) (b .control .reports) (m .earlier);
+      jobs = m .jobs;
+    }
     remembers (Basic (Age limit)) n y g = never true y refl
 
     -- a refused call, and an age call

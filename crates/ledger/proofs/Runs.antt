@@ -100,8 +100,10 @@ module _ {K R : Type 0} (order : K → K → Ordering) (tot : Total order) where
       where
         g : Version K R → Option K
         g = key-seen-in order st from
+
         none-freed : picked g (a .versions .freed) ≡ []
         none-freed = picked-none g (a .versions .freed) (all-weaker (Freeable (b .control .reports)) (λ v. g v ≡ None) (freeable-no-key t st (b .control .reports) o from) (a .versions .freed) (a .versions .freeable))
+
         all-here : picked g (summary s .versions ++ a .versions .freed) ≡ picked g (summary s .versions)
         all-here = joined-append (λ v. listed (g v)) (summary s .versions) (a .versions .freed) ∙ (ap (λ ks. picked g (summary s .versions) ++ ks) none-freed ∙ append-nil (picked g (summary s .versions)))
 
@@ -168,11 +170,11 @@ module _ {K R : Type 0} (order : K → K → Ordering) (tot : Total order) where
 
   pub run-agrees : (o : Numbers) (past : List (Exchange K R)) (s : State K R) → Run order o past s → Agrees (model-of o past) s
   run-agrees o [] s r = record {
-      control = r .control;
-      places = ap length (r .places) ∙ length-replicate (o .places) free;
-      shelf = r .shelf;
-      versions = record { freed = []; listed = perm-eq (versions-in (s .places) (s .shelf) ++ []) [] (append-nil (versions-in (s .places) (s .shelf)) ∙ rw (r .places) (all-free (o .places) (s .shelf))); freeable = tt }
-    }
+    control = r .control;
+    places = ap length (r .places) ∙ length-replicate (o .places) free;
+    shelf = r .shelf;
+    versions = record { freed = []; listed = perm-eq (versions-in (s .places) (s .shelf) ++ []) [] (append-nil (versions-in (s .places) (s .shelf)) ∙ rw (r .places) (all-free (o .places) (s .shelf))); freeable = tt };
+  }
   run-agrees o (e ∷ past) s r = model-more (λ b. Agrees b s) o e past (step-agrees (model-of o past) (r .0) (run-agrees o past (r .0) (r .1)) (sound-model o past) e s (r .2))
 
   -- a run answers calls other than age as the model does

@@ -43,6 +43,7 @@ module _ {K R : Type 0} (order : K → K → Ordering) (tot : Total order) (t st
       gone : (d : Option R) → and-then (mapped (λ r. committed q r stamp None) d) (draft-in order j k) ≡ None
       gone None = refl
       gone (Some r) = refl
+
       go : (x : Bool) → eqb i t ≡ x → (y : Bool) → eqb j t ≡ y → (z : Bool) → eqb i j ≡ z → and-then (cond x (mapped (λ r. committed q r stamp None) d) (Some (draft i q d))) (draft-in order j k) ≡ cond y None (when (z && same order q k) d)
       go true ex true ey z ez = gone d
       go true ex false ey true ez = absurd (eqb-false j t ey (sym (eqb-true i j ez) ∙ eqb-true i t ex))
@@ -69,8 +70,10 @@ module _ {K R : Type 0} (order : K → K → Ordering) (tot : Total order) (t st
       and-true : (x : Bool) → (x && true) ≡ x
       and-true true = refl
       and-true false = refl
+
       within : (leb b s && ltb s stamp) ≡ leb b s
       within = rw (lt-ltb s stamp h) (and-true (leb b s))
+
       go : (x : Bool) → seen-in order s k (committed q r b (when x stamp)) ≡ when (same order q k && leb b s) r
       go true = rw within
       go false = refl

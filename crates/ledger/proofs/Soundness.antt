@@ -39,29 +39,31 @@ count-le f g P h xs a = sum-mono (λ x. cond (isSome (f x)) 1 0) (λ x. cond (is
 module _ {K R : Type 0} (order : K → K → Ordering) (tot : Total order) where
   sound-kept : (st : ℕ) (vs : List (Version K R)) (q : Version K R → Bool) → Sound order st vs → Sound order st (kept-by q vs)
   sound-kept st vs q so = record {
-      one-draft = λ t k. omega (arith, so .one-draft t k, count-kept-le (found (draft-in order t k)) q vs);
-      one-seen = λ s k. omega (arith, so .one-seen s k, count-kept-le (found (seen-in order s k)) q vs);
-      in-time = all-kept-by q (In-time st) vs (so .in-time)
-    }
+    one-draft = λ t k. omega (arith, so .one-draft t k, count-kept-le (found (draft-in order t k)) q vs);
+    one-seen = λ s k. omega (arith, so .one-seen s k, count-kept-le (found (seen-in order s k)) q vs);
+    in-time = all-kept-by q (In-time st) vs (so .in-time);
+  }
 
   -- the old draft is gone
   undrafted : (t : ℕ) (k : K) (vs : List (Version K R)) → countBy (found (draft-in order t k)) (kept-by (λ v. not (isSome (draft-in order t k v))) vs) ≡ 0
   undrafted t k vs =
       count-none (found (draft-in order t k)) (kept-by (λ v. not (isSome (draft-in order t k v))) vs)
-        (all-weaker (λ v. not (isSome (draft-in order t k v)) ≡ true) (λ v. isSome (draft-in order t k v) ≡ false) (λ v h. not-true (isSome (draft-in order t k v)) h) (kept-by (λ v. not (isSome (draft-in order t k v))) vs)
-          (kept-by-passes (λ v. not (isSome (draft-in order t k v))) vs))
+      (all-weaker (λ v. not (isSome (draft-in order t k v)) ≡ true) (λ v. isSome (draft-in order t k v) ≡ false) (λ v h. not-true (isSome (draft-in order t k v)) h) (kept-by (λ v. not (isSome (draft-in order t k v))) vs)
+      (kept-by-passes (λ v. not (isSome (draft-in order t k v))) vs))
 
   sound-drafted : (st : ℕ) (vs : List (Version K R)) (t : ℕ) (k : K) (d : Option R) → Sound order st vs → Sound order st (drafted order t k d vs)
   sound-drafted st vs t k d so = record {
-      one-draft = λ t′ k′. goes t′ k′ (eqb t t′) (same order k k′) refl refl;
-      one-seen = λ s k′. omega (arith, rest .one-seen s k′, sumBy-cons (λ v. cond (found (seen-in order s k′) v) 1 0) (draft t k d) (kept-by others vs));
-      in-time = (tt, rest .in-time)
-    }
+    one-draft = λ t′ k′. goes t′ k′ (eqb t t′) (same order k k′) refl refl;
+    one-seen = λ s k′. omega (arith, rest .one-seen s k′, sumBy-cons (λ v. cond (found (seen-in order s k′) v) 1 0) (draft t k d) (kept-by others vs));
+    in-time = (tt, rest .in-time);
+  }
     where
       others : Version K R → Bool
       others v = not (isSome (draft-in order t k v))
+
       rest : Sound order st (kept-by others vs)
       rest = sound-kept st vs others so
+
       goes : (t′ : ℕ) (k′ : K) (x y : Bool) → eqb t t′ ≡ x → same order k k′ ≡ y → countBy (found (draft-in order t′ k′)) (draft t k d ∷ kept-by others vs) ≤ 1
       goes t′ k′ true true ex ey =
           let et : t ≡ t′ = eqb-true t t′ ex in
@@ -96,8 +98,12 @@ module _ {K R : Type 0} (order : K → K → Ordering) (tot : Total order) where
     one-draft-after : (j : ℕ) (k : K) → countBy (found (draft-in order j k)) (picked g vs) ≤ 1
     unfolding g
     one-draft-after j k =
-        omega (arith, so .one-draft j k, count-picked (draft-in order j k) g vs,
-          count-le (λ v. and-then (g v) (draft-in order j k)) (draft-in order j k) (λ v. Unit {0}) (λ v _. rw (settled-draft order tot t (st + 1) written j k v) (go (eqb j t) (draft-in order j k v))) vs (all-of (λ v. Unit {0}) (λ v. tt) vs))
+        omega (
+          arith,
+          so .one-draft j k,
+          count-picked (draft-in order j k) g vs,
+          count-le (λ v. and-then (g v) (draft-in order j k)) (draft-in order j k) (λ v. Unit {0}) (λ v _. rw (settled-draft order tot t (st + 1) written j k v) (go (eqb j t) (draft-in order j k v))) vs (all-of (λ v. Unit {0}) (λ v. tt) vs),
+        )
       where
         go : (x : Bool) (o : Option (Option R)) → cond (isSome (cond {A = Option (Option R)} x None o)) 1 0 ≤ cond (isSome o) 1 0
         go true o = omega arith
@@ -106,28 +112,40 @@ module _ {K R : Type 0} (order : K → K → Ordering) (tot : Total order) where
     one-seen-after : (s : ℕ) (k : K) → (s < st + 1) ⊎ (st + 1 ≤ s) → (x : Bool) → written k ≡ x → countBy (found (seen-in order s k)) (picked g vs) ≤ 1
     unfolding g written
     one-seen-after s k (inl h) x ex =
-        omega (arith, so .one-seen s k, count-picked (seen-in order s k) g vs,
-          count-le (λ v. and-then (g v) (seen-in order s k)) (seen-in order s k) (λ v. Unit {0}) (λ v _. rw (settled-seen order tot t (st + 1) written s k h v) (omega arith)) vs (all-of (λ v. Unit {0}) (λ v. tt) vs))
+        omega (
+          arith,
+          so .one-seen s k,
+          count-picked (seen-in order s k) g vs,
+          count-le (λ v. and-then (g v) (seen-in order s k)) (seen-in order s k) (λ v. Unit {0}) (λ v _. rw (settled-seen order tot t (st + 1) written s k h v) (omega arith)) vs (all-of (λ v. Unit {0}) (λ v. tt) vs),
+        )
     one-seen-after s k (inr h) true ex =
-        omega (arith, so .one-draft t k, count-picked (seen-in order s k) g vs,
-          count-le (λ v. and-then (g v) (seen-in order s k)) (draft-in order t k) (In-time st) (λ v i. rw (late s k h v i ∙ settled-there order tot t (st + 1) written k ex v) (go (draft-in order t k v))) vs (so .in-time))
+        omega (
+          arith,
+          so .one-draft t k,
+          count-picked (seen-in order s k) g vs,
+          count-le (λ v. and-then (g v) (seen-in order s k)) (draft-in order t k) (In-time st) (λ v i. rw (late s k h v i ∙ settled-there order tot t (st + 1) written k ex v) (go (draft-in order t k v))) vs (so .in-time),
+        )
       where
         go : (o : Option (Option R)) → cond (isSome (draft-record o)) 1 0 ≤ cond (isSome o) 1 0
         go None = omega arith
         go (Some None) = omega arith
         go (Some (Some r)) = omega arith
     one-seen-after s k (inr h) false ex =
-        omega (arith, one-current order st k vs so, count-picked (seen-in order s k) g vs,
+        omega (
+          arith,
+          one-current order st k vs so,
+          count-picked (seen-in order s k) g vs,
           count-le (λ v. and-then (g v) (seen-in order s k)) (current-in order k) (λ v. In-time st v × (draft-in order t k v ≡ None)) (λ v i. rw (late s k h v (i .0) ∙ settled-elsewhere order tot t (st + 1) written k ex v (i .1)) (omega arith)) vs
-            (all-both (In-time st) (λ v. draft-in order t k v ≡ None) (λ v. In-time st v × (draft-in order t k v ≡ None)) (λ v i n. (i, n)) vs (so .in-time) (none-found (draft-in order t k) vs (none-if (draft-at order t k vs) ex))))
+              (all-both (In-time st) (λ v. draft-in order t k v ≡ None) (λ v. In-time st v × (draft-in order t k v ≡ None)) (λ v i n. (i, n)) vs (so .in-time) (none-found (draft-in order t k) vs (none-if (draft-at order t k vs) ex))),
+        )
 
     sound-settled : Sound order (st + 1) (settled-all order t (st + 1) vs)
     unfolding g written
     sound-settled = record {
-        one-draft = one-draft-after;
-        one-seen = λ s k. one-seen-after s k (cases-lt s (st + 1)) (written k) refl;
-        in-time = all-picked (In-time (st + 1)) g vs (all-weaker (In-time st) (λ v. All (In-time (st + 1)) (listed (g v))) (settled-in-time order tot t (st + 1) written st refl) vs (so .in-time))
-      }
+      one-draft = one-draft-after;
+      one-seen = λ s k. one-seen-after s k (cases-lt s (st + 1)) (written k) refl;
+      in-time = all-picked (In-time (st + 1)) g vs (all-weaker (In-time st) (λ v. All (In-time (st + 1)) (listed (g v))) (settled-in-time order tot t (st + 1) written st refl) vs (so .in-time));
+    }
 
   -- a call that met this refusal, or none, leaves the model sound
   pub sound-after : (b : Summary K R) (met : Option Code) (c : Call K R) → Sound order (b .control .stamp) (b .versions) → Sound order (moved-on order met b c .control .stamp) (moved-on order met b c .versions)

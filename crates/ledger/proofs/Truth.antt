@@ -77,6 +77,7 @@ module _ {K R : Type 0} (order : K → K → Ordering) (tot : Total order) (st :
       later : (o : Option K) → In k (keys-seen order st from vs) → In k (listed o ++ keys-seen order st from vs)
       later None i = i
       later (Some q) i = inr i
+
       go : (z : Bool) → same order q k ≡ z → (x : Bool) → spans b f st ≡ x → isSome (or-else (when (z && x) r) (seen-at order st k vs)) ≡ true → (isSome (seen-at order st k vs) ≡ true → In k (listed (when (spans b f st && beyond order from q) q) ++ keys-seen order st from vs)) → In k (listed (when (spans b f st && beyond order from q) q) ++ keys-seen order st from vs)
       go true ez true ex i rec = let e = same-is order tot q k ez in rw (ex, ap (beyond order from) e ∙ h .0) (inl e)
       go true ez false ex i rec = rec i
@@ -88,9 +89,11 @@ module _ {K R : Type 0} (order : K → K → Ordering) (tot : Total order) (st :
     where
       shown : (k : K) → test k ≡ true → Shown vs k
       shown k h = and-parts (beyond order from k) (isSome (seen-at order st k vs)) (sym (is k) ∙ h)
+
       none-here : (ks : List K) → least order ks ≡ None → (k : K) → In k ks → ⊥
       none-here [] e k i = i
       none-here (q ∷ ks) e k i = differ cc
+
       go : (found : Option K) → least order (keys-seen order st from vs) ≡ found → Least order test found
       go None e = λ q. outside q (test q) refl
         where
@@ -109,18 +112,21 @@ module _ {K R : Type 0} (order : K → K → Ordering) (tot : Total order) where
     where
       b : Summary K R
       b = model-of order tot o past
+
       replies : (c : Call K R) (n : ℕ) → is-age (change c) ≡ false → (x : Option Code) → met order b c n ≡ x → Remembers order tot (moved-on order x b c) (record { call = c; shelf = n; answer = replied order x b c } ∷ past)
       replies c n y (Some why) ex = remembers-refused order tot b past m (sound-model order tot o past) c n (refusal-of why)
       replies c n y None ex = remembers order tot b past m (sound-model order tot o past) c n y ex
+
       aged : (limit : ℕ) → e .call ≡ Basic (Age limit) → Remembers order tot (next-model order b (e .call) (e .shelf)) (e ∷ past)
       aged limit q =
           let st : Step order (r .0) (record { call = Basic (Age limit); shelf = e .shelf; answer = e .answer }) s = subst (λ c. Step order (r .0) (record { call = c; shelf = e .shelf; answer = e .answer }) s) q (r .2) in
           subst (λ c. Remembers order tot (next-model order b c (e .shelf)) (record { call = c; shelf = e .shelf; answer = e .answer } ∷ past)) (sym q)
-            (subst (λ a. Remembers order tot b (record { call = Basic (Age limit); shelf = e .shelf; answer = a } ∷ past)) (sym (st .answer)) (remembers-age order tot b past m (sound-model order tot o past) limit (e .shelf) _ _))
+          (subst (λ a. Remembers order tot b (record { call = Basic (Age limit); shelf = e .shelf; answer = a } ∷ past)) (sym (st .answer)) (remembers-age order tot b past m (sound-model order tot o past) limit (e .shelf) _ _))
+
       go : (x : Bool) → is-age (change (e .call)) ≡ x → Remembers order tot (next-model order b (e .call) (e .shelf)) (e ∷ past)
       go false y =
           subst (λ a. Remembers order tot (next-model order b (e .call) (e .shelf)) (record { call = e .call; shelf = e .shelf; answer = a } ∷ past)) (sym (run-answers order tot o e past s r y))
-            (replies (e .call) (e .shelf) y (met order b (e .call) (e .shelf)) refl)
+          (replies (e .call) (e .shelf) y (met order b (e .call) (e .shelf)) refl)
       go true y = aged (age-is (e .call) y .0) (age-is (e .call) y .1)
 
   pub run-remembers : (o : Numbers) (past : List (Exchange K R)) (s : State K R) → Run order o past s → Remembers order tot (model-of order tot o past) past

@@ -32,5 +32,5 @@ module _ {K R : Type 0} (order : K → K → Ordering) (tot : Total order) where
         unseen = age-is-unseen order tot o past s r;
         full = each-call o (Full-is-full order o) (full-is-full order tot o) past s r;
         freed = newest-frees o past s r;
-        goes = goes-on order o past s (lengths .1 ∙ sym (lengths .0)) r
+        goes = goes-on order o past s (lengths .1 ∙ sym (lengths .0)) r;
       }

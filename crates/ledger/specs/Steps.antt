@@ -73,7 +73,6 @@ told-holder None = None
 told-holder (Some t) = Some (record { number = 7; values = t ∷ [] })
 
 module _ {K R : Type 0} (order : K → K → Ordering) where
-
   -- 6: the next running number would pass the last
   abbrev pub number-left : Summary K R → Option Code
   number-left b = when (ltb last-ticket (b .control .next)) (plain 6)

@@ -9,11 +9,9 @@ use keys::Key;
 pub fn law_of_runs<K: Key, R>()
     ensures law { λ _. ⌜ Law-of-runs K R (K·Key .order) ⌝ }
     ensures codes { λ _. ⌜ Codes-differ ⌝ }
-{
-}
+{}
 
 // Examples of spans, of ageing and of drafts, for every key kind and record kind.
 pub fn worked_examples<K: Key, R>()
     ensures examples { λ _. ⌜ Examples K R (K·Key .order) ⌝ }
-{
-}
+{}
