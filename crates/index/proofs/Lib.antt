@@ -1,3 +1,5 @@
+pub mod Leasts
 pub mod Nth
+pub mod Orders
 pub mod Ranked
 pub mod Slots
