@@ -108,6 +108,10 @@ skip-below gone i h = grind (arith, tells)
 pub skip-past : (gone i : ℕ) → gone ≤ i → skip gone i ≡ suc i
 skip-past gone i h = grind (arith, tells)
 
+-- the steps go on by one, but at the one that is left out
+pub skip-next : (gone i : ℕ) → (suc i ≡ gone → ⊥) → suc (skip gone i) ≡ skip gone (suc i)
+skip-next gone i ne = grind (arith, tells)
+
 pub skip-not : (gone i : ℕ) → skip gone i ≡ gone → ⊥
 skip-not gone i e = grind (arith, tells)
 
@@ -127,7 +131,7 @@ along-skipping before after link start gone first next zero = first
 along-skipping before after link start gone first next (suc i) =
     ap (λ at. link-of (cell-at after at)) (along-skipping before after link start gone first next i) ∙ next i
 
-nowhere : (cells : List Cell) (i : ℕ) → along cells None i ≡ None
+pub nowhere : (cells : List Cell) (i : ℕ) → along cells None i ≡ None
 nowhere cells zero = refl
 nowhere cells (suc i) = ap (λ at. link-of (cell-at cells at)) (nowhere cells i)
 

@@ -21,12 +21,16 @@ pub record Holds (cells : List Cell) (bucket : ℕ) (link : Option ℕ) : Type 0
   pub all : (n : ℕ) (key : CodeKey) → Maps (keys-in cells) n key → bucket-of key ≡ bucket → (i : ℕ) × (along cells link i ≡ Some n)
   pub once : (i j n : ℕ) → along cells link i ≡ Some n → along cells link j ≡ Some n → i ≡ j
 
+-- each bucket's chain holds its keys
+abbrev pub All-hold : List (Option ℕ) → List Cell → Type 0
+All-hold heads cells = (bucket : ℕ) (link : Option ℕ) → nth heads bucket ≡ Some link → Holds cells bucket link
+
 -- the slots of the index
 abbrev pub keys-of : BucketIndex → List (Option CodeKey)
 keys-of index = keys-in (index .cells)
 
--- each bucket's chain holds its keys, no key has two numbers, and the count is right
+-- what a new index is and every call keeps: each bucket's chain holds its keys, no key has two numbers, and the count is right
 pub record Sound (index : BucketIndex) : Type 0 where
-  pub chains : (bucket : ℕ) (link : Option ℕ) → nth (index .heads) bucket ≡ Some link → Holds (index .cells) bucket link
+  pub chains : All-hold (index .heads) (index .cells)
   pub apart : Apart (keys-of index)
   pub counted : index .count ≡ count-of (keys-of index)
