@@ -3,14 +3,13 @@
 -- and a key one bucket. In its own bucket add puts a cell in front, whose number had no key and so stood in no chain.
 -- Discard looks for the cell that leads to the number. Where there is none the number is the first of its chain, so the head is
 -- led past it; else that cell is, and it is the one before the number, since a chain meets each number once.
-use Prim.Native.Nat.{ℕ, zero, suc, _+_, _<_, _≤_}
+use Prim.Native.Nat.{ℕ, zero, suc, _<_, _≤_}
 use mathlib.Core.Bool.{Bool, true, false}
 use mathlib.Core.List.{List}
 use mathlib.Core.Logic.{⊎-elim}
 use mathlib.Core.Path.{_≡_, refl, sym, ap, _∙_, subst}
 use borrow.Author.Needs.{needs}
 use native.Mathlib.Omega.{arith}
-use lib.Dec.{eqb}
 use lib.ListN.{length, getD, set}
 use lib.Seq.{map-set-same}
 use Rattle.keys.specs.Orders.{Total}
@@ -25,10 +24,11 @@ use Rattle.std.specs.declared.option.Option.{Option}
 use Rattle.std.specs.declared.option.Option.the-variants.{Some, None}
 use Rattle.std.proofs.shelf.Lists.{length-map, length-set, map-set, set-past}
 use Rattle.std.proofs.shelf.Maps.{nth-getD, nth-past}
-use Rattle.std.proofs.shelf.Tests.{cases-eq, cases-order, eqb-true, true≢false}
+use Rattle.std.proofs.shelf.Tests.{cases-eq, eqb-true, true≢false}
 use Rattle.bucket_index.specs.declared.chain.Cell.{Cell}
-use Rattle.bucket_index.specs.Chains.{keys-in, cell-at, link-of, along, Sought, code-order, is-key, has-key, is-number, leads-to, free-cell, heads-past, cells-past}
-use Rattle.bucket_index.specs.Buckets.{bucket-of, Holds, All-hold}
+use Rattle.bucket_index.specs.Chains.{keys-in, cell-at, link-of, along, Sought, code-order, is-key, has-key, is-number, leads-to, free-cell, unlinked-heads, unlinked-cells}
+use Rattle.bucket_index.specs.Limits.{capacity}
+use Rattle.bucket_index.specs.Buckets.{bucket-of, Holds, Chained}
 use Rattle.bucket_index.proofs.Chains.{along-kept, along-linked, along-few, along-skipping, skip, skip-below, skip-past, skip-next, skip-not, skip-apart, skip-other}
 
 pub code-total : Total code-order
@@ -67,12 +67,12 @@ pub keys-set-length : (cells : List Cell) (n : ℕ) (cell : Cell) → length (ke
 keys-set-length cells n cell = ap length (keys-set cells n cell) ∙ length-set (keys-in cells) n (cell .key)
 
 -- the slot of a number as the code reads it
-pub slot-read : (cells : List Cell) (n : ℕ) → length (keys-in cells) ≡ 512 → n < 512 → nth (keys-in cells) n ≡ Some (getD cells n free-cell .key)
+pub slot-read : (cells : List Cell) (n : ℕ) → length (keys-in cells) ≡ capacity → n < capacity → nth (keys-in cells) n ≡ Some (getD cells n free-cell .key)
 slot-read cells n room h =
     let l : length (keys-in cells) ≡ length cells = keys-length cells in
     nth-map (λ (x : Cell). x .key) cells n _ (nth-getD cells n free-cell (omega arith))
 
-pub slot-past : (cells : List Cell) (n : ℕ) → length (keys-in cells) ≡ 512 → 512 ≤ n → nth (keys-in cells) n ≡ None
+pub slot-past : (cells : List Cell) (n : ℕ) → length (keys-in cells) ≡ capacity → capacity ≤ n → nth (keys-in cells) n ≡ None
 slot-past cells n room h = nth-past (keys-in cells) n (omega arith)
 
 maps-here : (cells : List Cell) (n : ℕ) (cell : Cell) (key : CodeKey) → nth cells n ≡ Some cell → cell .key ≡ Some key → Maps (keys-in cells) n key
@@ -116,7 +116,7 @@ holds-kept before after bucket link h same old =
       its = λ i n e. let there = h .its i n (sym (kept i) ∙ e) in
           (there .0, maps-kept before after n (there .0) (same n (there .0) (there .1) (there .2)) (there .1), there .2);
       all = λ n key there e. let at = h .all n key (old n key there e) e in (at .0, kept (at .0) ∙ at .1);
-      once = λ i j n p q. h .once i j n (sym (kept i) ∙ p) (sym (kept j) ∙ q)
+      once = λ i j n p q. h .once i j n (sym (kept i) ∙ p) (sym (kept j) ∙ q);
     }
   where
     kept : (i : ℕ) → along after link i ≡ along before link i
@@ -124,10 +124,10 @@ holds-kept before after bucket link h same old =
 
 -- Adding: the cell of a number without a key is put before the others of its bucket.
 
-pub all-hold-linked : (heads : List (Option ℕ)) (cells : List Cell) (key : CodeKey) (n : ℕ) (head : Option ℕ) → All-hold heads cells →
+pub chained-linked : (heads : List (Option ℕ)) (cells : List Cell) (key : CodeKey) (n : ℕ) (head : Option ℕ) → Chained heads cells →
     nth heads (bucket-of key) ≡ Some head → nth (keys-in cells) n ≡ Some None → New (keys-in cells) key →
-    All-hold (set heads (bucket-of key) (Some n)) (set cells n (record { key = Some key; next = head }))
-all-hold-linked heads cells key n head hold there free new bucket link e =
+    Chained (set heads (bucket-of key) (Some n)) (set cells n (record { key = Some key; next = head }))
+chained-linked heads cells key n head hold there free new bucket link e =
     ⊎-elim
     (λ (q : bucket ≡ bucket-of key).
     let first : nth (set heads (bucket-of key) (Some n)) (bucket-of key) ≡ Some (Some n) = nth-set-same heads (bucket-of key) (Some n) (nth-within heads (bucket-of key) head there) in
@@ -205,7 +205,7 @@ holds-skipping before after bucket link start gone n h there skips cleared =
           let at = h .all m key (old .0) b in
           let j = skip-other gone (at .0) (λ q. old .1 (same-number (sym (at .1) ∙ ap (along before link) q ∙ there))) in
           (j .0, skips (j .0) ∙ ap (along before link) (j .1) ∙ at .1);
-      once = λ i j m p q. skip-apart gone i j (h .once (skip gone i) (skip gone j) m (sym (skips i) ∙ p) (sym (skips j) ∙ q))
+      once = λ i j m p q. skip-apart gone i j (h .once (skip gone i) (skip gone j) m (sym (skips i) ∙ p) (sym (skips j) ∙ q));
     }
   where
     same-number : {a b : ℕ} → Some a ≡ Some b → a ≡ b
@@ -218,48 +218,51 @@ holds-skipping before after bucket link start gone n h there skips cleared =
     kept m key k ne = subst (λ (ks : List (Option CodeKey)). Maps ks m key) (sym cleared) (nth-set-other (keys-in before) n m None ne ∙ k)
 
 -- where the chain starts once it was led past a number
-abbrev start-past : Option ℕ → Option ℕ → Option ℕ → Option ℕ
-start-past None head next = next
-start-past (Some previous) head next = head
+abbrev unlinked-start : Option ℕ → Option ℕ → Option ℕ → Option ℕ
+unlinked-start None head next = next
+unlinked-start (Some previous) head next = head
 
 link-told : (n : ℕ) (cell : Option Cell) → link-of cell ≡ Some n → (c : Cell) × (cell ≡ Some c) × (c .next ≡ Some n)
 link-told n None e = let z : _≡_ {A = ℕ} 0 1 = cc in absurd (omega arith)
 link-told n (Some c) e = (c, refl, e)
 
-keys-past : (previous : Option ℕ) (cells : List Cell) (next : Option ℕ) → keys-in (cells-past previous cells next) ≡ keys-in cells
-keys-past None cells next = refl
-keys-past (Some p) cells next = map-set-same (λ (x : Cell). x .key) cells p _ free-cell refl
+unlinked-keys-kept : (previous : Option ℕ) (cells : List Cell) (next : Option ℕ) → keys-in (unlinked-cells previous cells next) ≡ keys-in cells
+unlinked-keys-kept None cells next = refl
+unlinked-keys-kept (Some p) cells next = map-set-same (λ (x : Cell). x .key) cells p _ free-cell refl
 
-past-other : (previous : Option ℕ) (cells : List Cell) (next : Option ℕ) (m : ℕ) → (previous ≡ Some m → ⊥) → nth (cells-past previous cells next) m ≡ nth cells m
-past-other None cells next m ne = refl
-past-other (Some p) cells next m ne = nth-set-other cells p m _ (λ e. ne (ap Some (sym e)))
+unlinked-other-cell : (previous : Option ℕ) (cells : List Cell) (next : Option ℕ) (m : ℕ) → (previous ≡ Some m → ⊥) → nth (unlinked-cells previous cells next) m ≡ nth cells m
+unlinked-other-cell None cells next m ne = refl
+unlinked-other-cell (Some p) cells next m ne = nth-set-other cells p m _ (λ e. ne (ap Some (sym e)))
 
 module _ (cells : List Cell) (bucket : ℕ) (head : Option ℕ) (n : ℕ) (next : Option ℕ) (h : Holds cells bucket head) (next-is : next ≡ link-of (nth cells n)) where
   -- a step whose cell is neither the number's nor the previous one leads on as before
   step-kept : (previous at : Option ℕ) → (at ≡ Some n → ⊥) → ((m : ℕ) → at ≡ Some m → previous ≡ Some m → ⊥) →
-      link-of (cell-at (set (cells-past previous cells next) n free-cell) at) ≡ link-of (cell-at cells at)
+      link-of (cell-at (set (unlinked-cells previous cells next) n free-cell) at) ≡ link-of (cell-at cells at)
   step-kept previous None ne np = refl
   step-kept previous (Some m) ne np =
-      ap link-of (nth-set-other (cells-past previous cells next) n m free-cell (λ e. ne (ap Some e)) ∙ past-other previous cells next m (np m refl))
+      ap link-of (nth-set-other (unlinked-cells previous cells next) n m free-cell (λ e. ne (ap Some e)) ∙ unlinked-other-cell previous cells next m (np m refl))
 
   -- every step of the chain but the one to the number is left
-  bypassed : (previous : Option ℕ) → (i : ℕ) × (along cells head i ≡ Some n) → Sought (leads-to n) cells head previous →
+  every-step-but-one : (previous : Option ℕ) → (i : ℕ) × (along cells head i ≡ Some n) → Sought (leads-to n) cells head previous →
       (gone : ℕ) × (along cells head gone ≡ Some n) ×
-      ((i : ℕ) → along (set (cells-past previous cells next) n free-cell) (start-past previous head next) i ≡ along cells head (skip gone i))
-  bypassed None (suc j, e) s =
+      ((i : ℕ) → along (set (unlinked-cells previous cells next) n free-cell) (unlinked-start previous head next) i ≡ along cells head (skip gone i))
+  every-step-but-one None (suc j, e) s =
       let c = link-told n (cell-at cells (along cells head j)) e in
       let few : suc j < length cells = holds-few cells bucket head h (suc j) n e in
       let fails : leads-to n (c .0) ≡ false = s j (c .0) (omega arith) (c .1) in
       absurd (true≢false (sym (ap (is-number n) (c .2) ∙ number-there n) ∙ fails))
-  bypassed None (zero, e) s =
-      (zero, e, along-skipping cells (set cells n free-cell) head next zero
-      (next-is ∙ ap (λ at. link-of (cell-at cells at)) (sym e) ∙ ap (along cells head) (sym (skip-past zero zero (omega arith))))
-      (λ i. step-kept None (along cells head (skip zero i)) (λ q. skip-not zero i (h .once (skip zero i) zero n q e)) (λ m q z. let o : _≡_ {A = ℕ} 0 1 = cc in omega arith)
-      ∙ ap (along cells head) (skip-next zero i (λ z. omega arith))))
-  bypassed (Some p) found s = (suc j, to-n, along-skipping cells after head head (suc j) (ap (along cells head) (sym (skip-below (suc j) zero (omega arith)))) steps)
+  every-step-but-one None (zero, e) s = (
+    zero,
+    e,
+    along-skipping cells (set cells n free-cell) head next zero
+        (next-is ∙ ap (λ at. link-of (cell-at cells at)) (sym e) ∙ ap (along cells head) (sym (skip-past zero zero (omega arith))))
+        (λ i. step-kept None (along cells head (skip zero i)) (λ q. skip-not zero i (h .once (skip zero i) zero n q e)) (λ m q z. let o : _≡_ {A = ℕ} 0 1 = cc in omega arith)
+        ∙ ap (along cells head) (skip-next zero i (λ z. omega arith))),
+  )
+  every-step-but-one (Some p) found s = (suc j, to-n, along-skipping cells after head head (suc j) (ap (along cells head) (sym (skip-below (suc j) zero (omega arith)))) steps)
     where
       after : List Cell
-      after = set (cells-past (Some p) cells next) n free-cell
+      after = set (unlinked-cells (Some p) cells next) n free-cell
 
       j : ℕ
       j = s .0
@@ -276,7 +279,7 @@ module _ (cells : List Cell) (bucket : ℕ) (head : Option ℕ) (n : ℕ) (next 
           (λ (q : i ≡ j).
           ap (λ k. link-of (cell-at after (along cells head (skip (suc j) k)))) q ∙ ap (λ k. link-of (cell-at after (along cells head k))) (skip-below (suc j) j (omega arith))
           ∙ ap (λ at. link-of (cell-at after at)) (s .2)
-          ∙ ap link-of (nth-set-other (cells-past (Some p) cells next) n p free-cell apart ∙ nth-set-same cells p _ (nth-within cells p (s .1) (s .3)))
+          ∙ ap link-of (nth-set-other (unlinked-cells (Some p) cells next) n p free-cell apart ∙ nth-set-same cells p _ (nth-within cells p (s .1) (s .3)))
           ∙ next-is ∙ ap (λ at. link-of (cell-at cells at)) (sym to-n)
           ∙ ap (along cells head) (sym (skip-past (suc j) (suc j) (omega arith))) ∙ ap (λ k. along cells head (skip (suc j) (suc k))) (sym q))
           (λ (ne : i ≡ j → ⊥).
@@ -285,58 +288,58 @@ module _ (cells : List Cell) (bucket : ℕ) (head : Option ℕ) (n : ℕ) (next 
           ∙ ap (along cells head) (skip-next (suc j) i (λ z. ne (omega arith))))
           (cases-eq i j)
 
-head-past : (previous : Option ℕ) (heads : List (Option ℕ)) (bucket : ℕ) (head next : Option ℕ) → nth heads bucket ≡ Some head →
-    nth (heads-past previous heads bucket next) bucket ≡ Some (start-past previous head next)
-head-past None heads bucket head next e = nth-set-same heads bucket next (nth-within heads bucket head e)
-head-past (Some p) heads bucket head next e = e
+unlinked-head : (previous : Option ℕ) (heads : List (Option ℕ)) (bucket : ℕ) (head next : Option ℕ) → nth heads bucket ≡ Some head →
+    nth (unlinked-heads previous heads bucket next) bucket ≡ Some (unlinked-start previous head next)
+unlinked-head None heads bucket head next e = nth-set-same heads bucket next (nth-within heads bucket head e)
+unlinked-head (Some p) heads bucket head next e = e
 
-other-past : (previous : Option ℕ) (heads : List (Option ℕ)) (bucket other : ℕ) (next : Option ℕ) → (other ≡ bucket → ⊥) →
-    nth (heads-past previous heads bucket next) other ≡ nth heads other
-other-past None heads bucket other next ne = nth-set-other heads bucket other next ne
-other-past (Some p) heads bucket other next ne = refl
+unlinked-other-head : (previous : Option ℕ) (heads : List (Option ℕ)) (bucket other : ℕ) (next : Option ℕ) → (other ≡ bucket → ⊥) →
+    nth (unlinked-heads previous heads bucket next) other ≡ nth heads other
+unlinked-other-head None heads bucket other next ne = nth-set-other heads bucket other next ne
+unlinked-other-head (Some p) heads bucket other next ne = refl
 
 -- a link to no cell has nothing to lead past
-pub nothing-past : (previous : Option ℕ) (heads : List (Option ℕ)) (bucket : ℕ) (cells : List Cell) (next : Option ℕ) (p : ℕ) → previous ≡ Some p → length (keys-in cells) ≡ 512 → 512 ≤ p →
-    (heads ≡ heads-past previous heads bucket next) × (cells ≡ cells-past previous cells next)
-nothing-past None heads bucket cells next p e room h = let z : _≡_ {A = ℕ} 0 1 = cc in absurd (omega arith)
-nothing-past (Some q) heads bucket cells next p e room h =
+pub unlinked-outside : (previous : Option ℕ) (heads : List (Option ℕ)) (bucket : ℕ) (cells : List Cell) (next : Option ℕ) (p : ℕ) → previous ≡ Some p → length (keys-in cells) ≡ capacity → capacity ≤ p →
+    (heads ≡ unlinked-heads previous heads bucket next) × (cells ≡ unlinked-cells previous cells next)
+unlinked-outside None heads bucket cells next p e room h = let z : _≡_ {A = ℕ} 0 1 = cc in absurd (omega arith)
+unlinked-outside (Some q) heads bucket cells next p e room h =
     let same : q ≡ p = cc in
     let l : length (keys-in cells) ≡ length cells = keys-length cells in
     (refl, sym (set-past cells q _ (omega arith)))
 
 -- what discard leaves of the slots
-pub keys-bypassed : (previous : Option ℕ) (cells : List Cell) (n : ℕ) (next : Option ℕ) → keys-in (set (cells-past previous cells next) n free-cell) ≡ set (keys-in cells) n None
-keys-bypassed previous cells n next =
-    keys-set (cells-past previous cells next) n free-cell ∙ ap (λ (ks : List (Option CodeKey)). set ks n None) (keys-past previous cells next)
+pub keys-unlinked : (previous : Option ℕ) (cells : List Cell) (n : ℕ) (next : Option ℕ) → keys-in (set (unlinked-cells previous cells next) n free-cell) ≡ set (keys-in cells) n None
+keys-unlinked previous cells n next =
+    keys-set (unlinked-cells previous cells next) n free-cell ∙ ap (λ (ks : List (Option CodeKey)). set ks n None) (unlinked-keys-kept previous cells next)
 
-pub all-hold-bypassed : (heads : List (Option ℕ)) (cells : List Cell) (key : CodeKey) (n : ℕ) (head next previous : Option ℕ) → All-hold heads cells →
+pub chained-unlinked : (heads : List (Option ℕ)) (cells : List Cell) (key : CodeKey) (n : ℕ) (head next previous : Option ℕ) → Chained heads cells →
     nth heads (bucket-of key) ≡ Some head → Maps (keys-in cells) n key → next ≡ link-of (nth cells n) → Sought (leads-to n) cells head previous →
-    All-hold (heads-past previous heads (bucket-of key) next) (set (cells-past previous cells next) n free-cell)
-all-hold-bypassed heads cells key n head next previous hold there has next-is sought bucket link e =
+    Chained (unlinked-heads previous heads (bucket-of key) next) (set (unlinked-cells previous cells next) n free-cell)
+chained-unlinked heads cells key n head next previous hold there has next-is sought bucket link e =
     ⊎-elim
     (λ (q : bucket ≡ bucket-of key).
-    let first : nth (heads-past previous heads (bucket-of key) next) (bucket-of key) ≡ Some (start-past previous head next) = head-past previous heads (bucket-of key) head next there in
-    let here : Some (start-past previous head next) ≡ Some link = sym first ∙ ap (nth (heads-past previous heads (bucket-of key) next)) (sym q) ∙ e in
-    let start : start-past previous head next ≡ link = cc in
+    let first : nth (unlinked-heads previous heads (bucket-of key) next) (bucket-of key) ≡ Some (unlinked-start previous head next) = unlinked-head previous heads (bucket-of key) head next there in
+    let here : Some (unlinked-start previous head next) ≡ Some link = sym first ∙ ap (nth (unlinked-heads previous heads (bucket-of key) next)) (sym q) ∙ e in
+    let start : unlinked-start previous head next ≡ link = cc in
     subst (λ (b : ℕ). Holds after b link) (sym q) (subst (Holds after (bucket-of key)) start own))
     (λ (ne : bucket ≡ bucket-of key → ⊥).
-    holds-kept cells after bucket link (hold bucket link (sym (other-past previous heads (bucket-of key) bucket next ne) ∙ e))
+    holds-kept cells after bucket link (hold bucket link (sym (unlinked-other-head previous heads (bucket-of key) bucket next ne) ∙ e))
     (λ m k h b.
-    nth-set-other (cells-past previous cells next) n m free-cell (λ q. ne (sym b ∙ ap bucket-of (one-key (keys-in cells) n k key (subst (λ (j : ℕ). Maps (keys-in cells) j k) q h) has)))
-    ∙ past-other previous cells next m (λ q. ne (sym b ∙ in-bucket m k h q)))
-    (λ m k h b. maps-cleared (keys-in cells) n m k (subst (λ (ks : List (Option CodeKey)). Maps ks m k) (keys-bypassed previous cells n next) h) .0))
+    nth-set-other (unlinked-cells previous cells next) n m free-cell (λ q. ne (sym b ∙ ap bucket-of (one-key (keys-in cells) n k key (subst (λ (j : ℕ). Maps (keys-in cells) j k) q h) has)))
+    ∙ unlinked-other-cell previous cells next m (λ q. ne (sym b ∙ in-bucket m k h q)))
+    (λ m k h b. maps-cleared (keys-in cells) n m k (subst (λ (ks : List (Option CodeKey)). Maps ks m k) (keys-unlinked previous cells n next) h) .0))
     (cases-eq bucket (bucket-of key))
   where
     after : List Cell
-    after = set (cells-past previous cells next) n free-cell
+    after = set (unlinked-cells previous cells next) n free-cell
 
     before : Holds cells (bucket-of key) head
     before = hold (bucket-of key) head there
 
-    own : Holds after (bucket-of key) (start-past previous head next)
+    own : Holds after (bucket-of key) (unlinked-start previous head next)
     own =
-        let gone = bypassed cells (bucket-of key) head n next before next-is previous (before .all n key has refl) sought in
-        holds-skipping cells after (bucket-of key) head (start-past previous head next) (gone .0) n before (gone .1) (gone .2) (keys-bypassed previous cells n next)
+        let gone = every-step-but-one cells (bucket-of key) head n next before next-is previous (before .all n key has refl) sought in
+        holds-skipping cells after (bucket-of key) head (unlinked-start previous head next) (gone .0) n before (gone .1) (gone .2) (keys-unlinked previous cells n next)
 
     -- the previous cell is one of the bucket
     in-bucket : (m : ℕ) (k : CodeKey) → Maps (keys-in cells) m k → previous ≡ Some m → bucket-of k ≡ bucket-of key

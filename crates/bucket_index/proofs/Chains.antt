@@ -21,7 +21,7 @@ use Rattle.std.specs.declared.option.Option.{Option}
 use Rattle.std.specs.declared.option.Option.the-variants.{Some, None}
 use Rattle.std.proofs.shelf.Tests.{cases-lt}
 use Rattle.bucket_index.specs.declared.chain.Cell.{Cell}
-use Rattle.bucket_index.specs.Chains.{cell-at, link-of, along, Sought}
+use Rattle.bucket_index.specs.Chains.{cell-at, link-of, along, None-within, Sought}
 
 -- one step at the front in place of one at the end
 along-front : (cells : List Cell) (link : Option ℕ) (i : ℕ) → along cells link (suc i) ≡ along cells (link-of (cell-at cells link)) i
@@ -42,7 +42,7 @@ ended cells link i (suc j) e h =
 -- it has come to this link after so many steps, past cells that do not pass the test
 pub record Passed (test : Cell → Bool) (cells : List Cell) (link : Option ℕ) (at : Option ℕ) (i : ℕ) : Type 0 where
   pub here : at ≡ along cells link i
-  pub before : (j : ℕ) (cell : Cell) → j < i → cell-at cells (along cells link j) ≡ Some cell → test cell ≡ false
+  pub before : None-within test cells link i
 
 module _ (test : Cell → Bool) (cells : List Cell) (link : Option ℕ) where
   pub passed-none : Passed test cells link link 0
@@ -60,7 +60,7 @@ module _ (test : Cell → Bool) (cells : List Cell) (link : Option ℕ) where
             let k : i ≡ j = omega arith in
             let same : Some cell ≡ Some other = e ∙ ap (cell-at cells) (p .here) ∙ ap (λ n. cell-at cells (along cells link n)) k ∙ q in
             let one : cell ≡ other = cc in subst (λ x. test x ≡ false) one (sym f))
-            (cases-lt j i)
+            (cases-lt j i);
       })
 
   pub passed-end : (at : Option ℕ) (i : ℕ) (r : Option ℕ) → Passed test cells link at i → None ≡ cell-at cells at → r ≡ None → Sought test cells link r
@@ -77,7 +77,7 @@ module _ (test : Cell → Bool) (cells : List Cell) (link : Option ℕ) where
 
   pub passed-found : (at : Option ℕ) (i : ℕ) (cell : Cell) → Passed test cells link at i → Some cell ≡ cell-at cells at → true ≡ test cell → Sought test cells link at
   passed-found None i cell p e t = let z : _≡_ {A = ℕ} 0 1 = cc in absurd (omega arith)
-  passed-found (Some n) i cell p e t = (i, cell, sym (p .here), sym e, sym t)
+  passed-found (Some n) i cell p e t = (i, cell, sym (p .here), sym e, sym t, p .before)
 
 -- Chains where cells change.
 
@@ -146,9 +146,9 @@ along-few cells (suc i) n (Some first) slots keyed once e =
     let fewer : suc (count-of (set slots first None)) ≡ count-of slots = count-fewer slots first (keyed zero first refl .0) (keyed zero first refl .1) in
     let rest : Option ℕ = link-of (nth cells first) in
     let less : i < count-of (set slots first None) =
-        along-few cells i n rest (set slots first None)
-        (λ j m q. let there = keyed (suc j) m (along-front cells (Some first) j ∙ q) in
-        (there .0, nth-set-other slots first m None (λ same. let z : suc j ≡ zero = once (suc j) zero first (along-front cells (Some first) j ∙ q ∙ ap Some same) refl in omega arith) ∙ there .1))
-        (λ j k m p q. let z : suc j ≡ suc k = once (suc j) (suc k) m (along-front cells (Some first) j ∙ p) (along-front cells (Some first) k ∙ q) in omega arith)
-        (sym (along-front cells (Some first) i) ∙ e) in
+    along-few cells i n rest (set slots first None)
+    (λ j m q. let there = keyed (suc j) m (along-front cells (Some first) j ∙ q) in
+    (there .0, nth-set-other slots first m None (λ same. let z : suc j ≡ zero = once (suc j) zero first (along-front cells (Some first) j ∙ q ∙ ap Some same) refl in omega arith) ∙ there .1))
+    (λ j k m p q. let z : suc j ≡ suc k = once (suc j) (suc k) m (along-front cells (Some first) j ∙ p) (along-front cells (Some first) k ∙ q) in omega arith)
+    (sym (along-front cells (Some first) i) ∙ e) in
     omega arith

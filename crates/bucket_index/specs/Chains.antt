@@ -1,4 +1,5 @@
 -- Chains of cells: where a link leads, step by step, and what is found along the way.
+-- Everything here is said of any cells and any link, sound or not: a link to no cell ends its chain.
 use Prim.Native.Nat.{ℕ, zero, suc, _<_}
 use mathlib.Core.Bool.{Bool, true, false}
 use mathlib.Core.List.{List, map}
@@ -32,10 +33,15 @@ abbrev pub along : List Cell → Option ℕ → ℕ → Option ℕ
 along cells link zero = link
 along cells link (suc i) = link-of (cell-at cells (along cells link i))
 
--- the number of a cell along the chain that passes the test; or none, where no cell does within as many steps as there are cells
+-- no cell that the link leads to within so many steps passes the test
+abbrev pub None-within : (Cell → Bool) → List Cell → Option ℕ → ℕ → Type 0
+None-within test cells link steps = (i : ℕ) (cell : Cell) → i < steps → cell-at cells (along cells link i) ≡ Some cell → test cell ≡ false
+
+-- the number of the first cell along the chain that passes the test; or none, where no cell does within as many steps as there are cells
 abbrev pub Sought : (Cell → Bool) → List Cell → Option ℕ → Option ℕ → Type 0
-Sought test cells link None = (i : ℕ) (cell : Cell) → i < length cells → cell-at cells (along cells link i) ≡ Some cell → test cell ≡ false
-Sought test cells link (Some n) = (i : ℕ) × (cell : Cell) × (along cells link i ≡ Some n) × (nth cells n ≡ Some cell) × (test cell ≡ true)
+Sought test cells link None = None-within test cells link (length cells)
+Sought test cells link (Some n) =
+    (i : ℕ) × (cell : Cell) × (along cells link i ≡ Some n) × (nth cells n ≡ Some cell) × (test cell ≡ true) × None-within test cells link i
 
 -- the order of code keys
 abbrev pub code-order : CodeKey → CodeKey → Ordering
@@ -63,12 +69,12 @@ leads-to n cell = is-number n (cell .next)
 abbrev pub free-cell : Cell
 free-cell = record { key = None; next = None }
 
--- the heads of the buckets after a cell of one was bypassed: the head leads past it, if no cell comes before it
-abbrev pub heads-past : Option ℕ → List (Option ℕ) → ℕ → Option ℕ → List (Option ℕ)
-heads-past None heads bucket next = set heads bucket next
-heads-past (Some previous) heads bucket next = heads
+-- the heads after a cell was taken out of its bucket's chain: the head leads on to the next cell, if no cell came before
+abbrev pub unlinked-heads : Option ℕ → List (Option ℕ) → ℕ → Option ℕ → List (Option ℕ)
+unlinked-heads None heads bucket next = set heads bucket next
+unlinked-heads (Some previous) heads bucket next = heads
 
--- the cells after one was bypassed: the previous one leads past it, if one comes before it
-abbrev pub cells-past : Option ℕ → List Cell → Option ℕ → List Cell
-cells-past None cells next = cells
-cells-past (Some previous) cells next = set cells previous (record { key = getD cells previous free-cell .key; next = next })
+-- the cells after one was taken out of its chain: the cell before it leads on to the next one, if there is such a cell
+abbrev pub unlinked-cells : Option ℕ → List Cell → Option ℕ → List Cell
+unlinked-cells None cells next = cells
+unlinked-cells (Some previous) cells next = set cells previous (record { key = getD cells previous free-cell .key; next = next })

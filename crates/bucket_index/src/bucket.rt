@@ -1,6 +1,7 @@
 // The memory of the bucket index: the cell of number n lies at place n, and each bucket has a chain of the cells whose keys belong to it.
 // The calls are in the module below, since their contracts speak of the whole index.
 ghost use Rattle.bucket_index.specs.Chains.{keys-in};
+ghost use Rattle.bucket_index.specs.Limits.{buckets, capacity};
 ghost use lib.ListN.{length};
 ghost use mathlib.Core.Path.{_≡_};
 
@@ -25,5 +26,5 @@ pub struct BucketIndex {
     // how many cells have a key
     count: usize,
     // contracts read an array as a list, so how long each is has to be said
-    ghost sizes: { (length heads ≡ 64) × (length (keys-in cells) ≡ 512) },
+    ghost sizes: { (length heads ≡ buckets) × (length (keys-in cells) ≡ capacity) },
 }

@@ -1,6 +1,5 @@
 // Chains of cells: a cell for each number, and links that lead from cell to cell by number.
 // Safe and ending on any cells: a link to no cell ends a chain, and so do as many steps as there are cells.
-ghost use Prim.Native.Nat.{ℕ};
 ghost use Rattle.bucket_index.specs.Chains.{Sought, cell-at, has-key, leads-to};
 ghost use Rattle.bucket_index.specs.declared.chain.Cell.{Cell};
 ghost use denote.Ref.{now};

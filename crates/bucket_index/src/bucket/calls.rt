@@ -1,8 +1,9 @@
 // The calls of the bucket index. Find, add and discard visit the cells of one bucket only.
 // Sound is what a new index is and every call keeps; on any other memory a call is still safe and ends.
-ghost use Prim.Native.Nat.{ℕ, min, _+_, _-_, _<_, _≤_, _^_};
+ghost use Prim.Native.Nat.{min, _+_, _-_, _<_, _≤_, _^_};
 ghost use Rattle.bucket_index.specs.Buckets.{Sound, bucket-of, keys-of};
-ghost use Rattle.bucket_index.specs.Chains.{cells-past, free-cell, heads-past};
+ghost use Rattle.bucket_index.specs.Chains.{free-cell, unlinked-cells, unlinked-heads};
+ghost use Rattle.bucket_index.specs.Limits.{buckets, capacity};
 ghost use Rattle.index.specs.Slots.{empty};
 ghost use Rattle.std.specs.Finite.{nth};
 ghost use Rattle.std.specs.Options.{Cases};
@@ -38,8 +39,8 @@ fn bucket_of(key: CodeKey) -> usize
 impl BucketIndex {
     // The memory of an index without a key.
     fn blank() -> BucketIndex
-        ensures heads { λ r. ⌜ r .heads ≡ replicate 64 None ⌝ }
-        ensures cells { λ r. ⌜ r .cells ≡ replicate 512 free-cell ⌝ }
+        ensures heads { λ r. ⌜ r .heads ≡ replicate buckets None ⌝ }
+        ensures cells { λ r. ⌜ r .cells ≡ replicate capacity free-cell ⌝ }
         ensures count { λ r. ⌜ r .count ≡ 0 ⌝ }
     {
         BucketIndex {
@@ -52,7 +53,7 @@ impl BucketIndex {
     // An index without a key.
     pub fn new() -> BucketIndex
         ensures kept { λ r. ⌜ Sound r ⌝ }
-        ensures answer { λ r. ⌜ keys-of r ≡ empty 512 ⌝ }
+        ensures answer { λ r. ⌜ keys-of r ≡ empty capacity ⌝ }
     {
         BucketIndex::blank()
     }
@@ -60,7 +61,7 @@ impl BucketIndex {
     // The slot of the number: its key, if one has it; none past the capacity.
     fn slot(&self, number: usize) -> Option<Option<CodeKey>>
         ensures answer { λ r. ⌜ r ≡ nth (keys-of (now (self .entry))) number ⌝ }
-        ensures within { λ r. ⌜ Cases r (512 ≤ number) (λ _. number < 512) ⌝ }
+        ensures within { λ r. ⌜ Cases r (capacity ≤ number) (λ _. number < capacity) ⌝ }
     {
         if number < CAPACITY {
             Some(self.cells[number].key)
@@ -71,7 +72,7 @@ impl BucketIndex {
 
     // Puts the cell of the number, with the key, before the others of the key's bucket.
     fn link(&mut self, key: CodeKey, number: usize)
-        requires { ⌜ number < 512 ⌝ }
+        requires { ⌜ number < capacity ⌝ }
         ensures heads { λ _. ⌜ now (self .exit) .heads ≡ set (now (self .entry) .heads) (bucket-of key) (Some number) ⌝ }
         ensures cells { λ _. ⌜ now (self .exit) .cells ≡ set (now (self .entry) .cells) number (record { key = Some key; next = getD (now (self .entry) .heads) (bucket-of key) None }) ⌝ }
         ensures count { λ _. ⌜ now (self .exit) .count ≡ min (now (self .entry) .count + 1) (2 ^ 64 - 1) ⌝ }
@@ -87,9 +88,9 @@ impl BucketIndex {
     }
 
     // Lets the link that led to a cell of the key's bucket lead to the next one: the link of the previous cell, or the head.
-    fn bypass(&mut self, key: CodeKey, previous: Link, next: Link)
-        ensures heads { λ _. ⌜ now (self .exit) .heads ≡ heads-past previous (now (self .entry) .heads) (bucket-of key) next ⌝ }
-        ensures cells { λ _. ⌜ now (self .exit) .cells ≡ cells-past previous (now (self .entry) .cells) next ⌝ }
+    fn unlink(&mut self, key: CodeKey, previous: Link, next: Link)
+        ensures heads { λ _. ⌜ now (self .exit) .heads ≡ unlinked-heads previous (now (self .entry) .heads) (bucket-of key) next ⌝ }
+        ensures cells { λ _. ⌜ now (self .exit) .cells ≡ unlinked-cells previous (now (self .entry) .cells) next ⌝ }
         ensures count { λ _. ⌜ now (self .exit) .count ≡ now (self .entry) .count ⌝ }
     {
         match previous {
@@ -105,7 +106,7 @@ impl BucketIndex {
 
     // Frees the cell of the number.
     fn free(&mut self, number: usize)
-        requires { ⌜ number < 512 ⌝ }
+        requires { ⌜ number < capacity ⌝ }
         ensures heads { λ _. ⌜ now (self .exit) .heads ≡ now (self .entry) .heads ⌝ }
         ensures cells { λ _. ⌜ now (self .exit) .cells ≡ set (now (self .entry) .cells) number free-cell ⌝ }
         ensures count { λ _. ⌜ now (self .exit) .count ≡ now (self .entry) .count - 1 ⌝ }
@@ -160,7 +161,7 @@ pub impl Index for BucketIndex as BucketIndexIndex {
         let head = self.heads[bucket_of(key)];
         let previous = seek(&self.cells, head, LeadsTo(number as u16));
         let next = self.cells[number].next;
-        self.bypass(key, previous, next);
+        self.unlink(key, previous, next);
         self.free(number);
         Ok(())
     }

@@ -5,5 +5,5 @@ pub returns : need.returns
 returns c =
     record {
       kept = new-sound (c .blank .result) (c .blank .ensures .cells) (c .blank .ensures .heads) (c .blank .ensures .count);
-      answer = new-empty (c .blank .result) (c .blank .ensures .cells)
+      answer = new-empty (c .blank .result) (c .blank .ensures .cells);
     }

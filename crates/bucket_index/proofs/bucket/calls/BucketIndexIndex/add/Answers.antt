@@ -15,5 +15,5 @@ returns c =
     record {
       answer = λ s. granted s .0;
       after = λ s. linked-keys (c .args .self .now) (c .link .last .self) (c .args .key) (c .args .number) (c .link .ensures .cells) ∙ granted s .1;
-      kept = λ s. linked-sound (c .args .self .now) (c .link .last .self) (c .args .key) (c .args .number) (c .link .ensures .heads) (c .link .ensures .cells) (c .link .ensures .count) s free (c .in-rest .ensures tt .answer s)
+      kept = λ s. linked-sound (c .args .self .now) (c .link .last .self) (c .args .key) (c .args .number) (c .link .ensures .heads) (c .link .ensures .cells) (c .link .ensures .count) s free (c .in-rest .ensures tt .answer s);
     }
