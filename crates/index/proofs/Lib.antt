@@ -1,3 +1,4 @@
+pub mod Changes
 pub mod Nth
 pub mod Ranked
 pub mod Slots
