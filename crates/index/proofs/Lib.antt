@@ -1,3 +1,4 @@
+pub mod Changes
 pub mod Leasts
 pub mod Nth
 pub mod Orders
