@@ -34,7 +34,7 @@ impl<K: Key> Node<K> {
 }
 
 // A node with a key, as a link led to it.
-#[derive(Clone, Copy)]
+#[derive(Drop)]
 pub struct Found<K> {
     pub place: usize,
     pub key: K,
@@ -94,7 +94,7 @@ pub fn put<K: Key>(nodes: &mut [Node<K>], place: usize, key: Option<K>)
     if place < nodes.len() {
         nodes[place] = Node {
             key,
-            links: Links::NOWHERE,
+            ..Node::new()
         };
     }
 }
