@@ -1,4 +1,4 @@
-// Drives the bucket index and the search tree through the same calls as a plain list of pairs, and prints what each answered.
+// Drives the bucket index and the tree index through the same calls as a plain list of pairs, and prints what each answered.
 // Every answer that differs from the list's is counted, and the first one is told.
 mod call;
 mod plain;
@@ -16,10 +16,6 @@ use plain::PlainListSubject;
 use script::Kind;
 use script::KindDebug;
 use script::Script;
-use search_tree::Node;
-use search_tree::SearchTree;
-use search_tree::SearchTreeIndex;
-use search_tree::SearchTreeOrderedIndex;
 use std::io;
 use subject::Ordered;
 use subject::OrderedSubject;
@@ -29,14 +25,18 @@ use subject::Subject;
 use tally::Tally;
 use tally::TallyDebug;
 use tally::drive;
+use tree_index::Node;
+use tree_index::SearchTree;
+use tree_index::SearchTreeIndex;
+use tree_index::SearchTreeOrderedIndex;
 
-// More nodes than a search tree uses.
+// More nodes than a tree uses.
 const NODES: usize = 600;
 
 // The lists of calls that all three go through.
 const KINDS: [Kind; 4] = [Kind::Discards, Kind::Full, Kind::Rising, Kind::Random(800)];
 
-// Capacities of search trees, down to none.
+// Capacities of trees, down to none.
 const CAPACITIES: [usize; 3] = [20, 1, 0];
 
 // Drives the subject through the calls, and once more when it was emptied, and prints the tally.
@@ -54,7 +54,7 @@ fn try_out<S: Subject + Drop>(
     println!(rt, "  {name}: {tally:?}")
 }
 
-// The plain list and a search tree in so many of the nodes, side by side.
+// The plain list and a tree in so many of the nodes, side by side.
 fn try_tree(
     rt: &LibcRuntime,
     nodes: &mut [Node<CodeKey>],
@@ -64,9 +64,9 @@ fn try_tree(
     let count = nodes.len().min(count);
     let capacity = count.min(CAPACITY);
     let list = PlainList::new(rt.alloc(), capacity);
-    try_out(rt, "plain list", list, capacity, script)?;
+    try_out(rt, "PlainList", list, capacity, script)?;
     let tree = Ordered(SearchTree::new(&mut nodes[0..count]));
-    try_out(rt, "search tree", tree, capacity, script)
+    try_out(rt, "SearchTree", tree, capacity, script)
 }
 
 // All three side by side.
@@ -75,10 +75,10 @@ fn try_all(rt: &LibcRuntime, nodes: &mut [Node<CodeKey>], kind: Kind) -> io::Res
     let script = Script::of(rt.alloc(), kind)?;
     try_tree(rt, nodes, NODES, &script)?;
     let bucket = Plain(BucketIndex::new());
-    try_out(rt, "bucket index", bucket, CAPACITY, &script)
+    try_out(rt, "BucketIndex", bucket, CAPACITY, &script)
 }
 
-// The plain list and a search tree of so small a capacity.
+// The plain list and a tree of so small a capacity.
 fn try_small(rt: &LibcRuntime, nodes: &mut [Node<CodeKey>], capacity: usize) -> io::Result<()> {
     println!(rt, "capacity {capacity}")?;
     let script = Script::of(rt.alloc(), Kind::Random(400))?;
