@@ -1,4 +1,5 @@
--- What a line's reading says of its echo.
+-- The echo run: what a line's reading says of its echo, and the turns of the loop over the lines that are still to come.
+-- A turn takes the first of them off and writes its echo; the page's own steps then say what the rest does.
 use Prim.Native.Nat.{ℕ}
 use mathlib.Core.Path.{_≡_, ap, sym, subst}
 use mathlib.Core.List.{List, [], _∷_, map}

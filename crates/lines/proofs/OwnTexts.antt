@@ -1,9 +1,9 @@
 -- Readers that read just the texts of their values: a text that reads is the value's own text, and the text of every value in its ranges reads back.
 -- Two such readers, one for each of two fields, make a reader of that kind for both.
-use Prim.Native.Nat.{ℕ, _^_, _<_}
+use Prim.Native.Nat.{ℕ, _<_}
 use mathlib.Core.Bool.{true}
-use mathlib.Core.List.{List, [], _∷_, _++_}
-use mathlib.Core.Path.{_≡_, refl, sym, ap, subst, _∙_}
+use mathlib.Core.List.{List}
+use mathlib.Core.Path.{_≡_, sym, ap, subst, _∙_}
 use native.Mathlib.Omega.{arith}
 use lib.ListN.{length, length-append}
 use Rattle.std.specs.Written.{decimal}

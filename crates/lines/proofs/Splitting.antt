@@ -1,15 +1,14 @@
 -- Cutting an input into lines, and joining them.
 -- A line without byte 10 in front of a byte 10 is the first line of what they begin; so cutting undoes joining, and there is only one way to cut.
-use Prim.Native.Nat.{ℕ, _+_, _<_, _≤_}
+use Prim.Native.Nat.{ℕ, _+_, _<_}
 use mathlib.Core.Path.{_≡_, refl, sym, ap, subst, _∙_}
 use mathlib.Core.Bool.{Bool, true, false, cond}
 use mathlib.Core.Logic.{inl, inr}
 use mathlib.Core.List.{List, [], _∷_, _++_, append-assoc}
 use native.Mathlib.Omega.{arith}
-use lib.Dec.{eqb}
 use lib.ListN.{length, getD, take, drop}
 use Rattle.std.proofs.shelf.Lists.{take-append-drop, drop-more}
-use Rattle.std.proofs.shelf.Tests.{cases-eq, eq-eqb, ne-eqb, cases-bool}
+use Rattle.std.proofs.shelf.Tests.{cases-eq, ne-eqb, cases-bool}
 use Rattle.std.specs.shelf.Lists.{All, joined}
 use Rattle.page.specs.Texts.{ended}
 use Rattle.lines.specs.Inputs.{prepend, input-lines, closed, One-line, Lines-of}

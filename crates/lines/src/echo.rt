@@ -1,5 +1,5 @@
 // The echo run: each line of an input as it was understood, onto a page.
-// Relies on the page to write whole lines; keeps what stood on the page before.
+// Relies on the page to write whole lines; keeps what stood on the page before. `memory` says that the page is still over the same bytes.
 ghost use Rattle.keys.specs.Refusals.{told};
 ghost use Rattle.lines.specs.Echoes.{echo-lines, echo-text, malformed};
 ghost use Rattle.lines.specs.Inputs.{input-lines};

@@ -1,20 +1,22 @@
 -- Lines written one after the other until one does not fit: the steps of a run over them.
+-- A line takes as many bytes of the room as it has, so what fits behind it is what would fit into the rest; a line that does not fit ends the run,
+-- and then all lines together do not fit either.
 use Prim.Native.Nat.{ℕ, _+_, _-_, _<_, _≤_}
 use mathlib.Core.Path.{_≡_, refl, sym, ap, subst, _∙_}
-use mathlib.Core.Bool.{Bool, true, false, cond}
-use mathlib.Core.Logic.{_⊎_, inl, inr}
+use mathlib.Core.Bool.{false, cond}
+use mathlib.Core.Logic.{inl, inr}
 use mathlib.Core.List.{List, [], _∷_, _++_, append-assoc, append-nil}
 use native.Mathlib.Omega.{arith}
 use native.Mathlib.Nat.{add-zero}
 use lib.Dec.{leb}
-use lib.ListN.{length, take, length-append}
+use lib.ListN.{length, length-append}
 use Rattle.std.proofs.shelf.Tests.{le-leb, lt-leb, cases-lt}
 use Rattle.std.specs.declared.result.Result.{Result}
 use Rattle.std.specs.declared.result.Result.the-variants.{Ok, Err}
 use Rattle.std.specs.shelf.Lists.{joined}
 use Rattle.keys.specs.Refusals.{plain}
 use Rattle.page.specs.declared.mark.PageRefusal.{PageRefusal}
-use Rattle.page.specs.Pages.{Filled, Grown, Lined, Printed, standing, room, fitted, fitting}
+use Rattle.page.specs.Pages.{Filled, Lined, Printed, standing, room, fitted, fitting}
 use Rattle.page.specs.Texts.{ended}
 
 -- whether a line fits is told by its answer

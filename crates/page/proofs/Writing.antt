@@ -1,9 +1,8 @@
 -- Texts that are put one behind the other, and a line over them.
 -- What fits is put behind what was put before; once a text does not fit, no longer text that begins with it fits either.
 -- A line under a guard is then written whole, or the mark is back where it was.
-use Prim.Native.Nat.{ℕ, _+_, _-_, _/_, _%_, _^_, _<_, _≤_}
-use mathlib.Core.Path.{_≡_, refl, sym, ap, subst, _∙_}
-use mathlib.Core.Bool.{Bool, true, false, cond}
+use Prim.Native.Nat.{ℕ, _+_, _/_, _%_, _^_, _<_, _≤_}
+use mathlib.Core.Path.{_≡_, sym, ap, subst, _∙_}
 use mathlib.Core.List.{List, [], _∷_, _++_, append-assoc, append-nil}
 use native.Mathlib.Omega.{arith}
 use native.Mathlib.Nat.{add-zero}
@@ -15,7 +14,7 @@ use Rattle.std.specs.Written.{decimal}
 use Rattle.std.specs.declared.result.Result.{Result}
 use Rattle.std.specs.declared.result.Result.the-variants.{Ok, Err}
 use Rattle.page.specs.declared.mark.PageRefusal.{PageRefusal}
-use Rattle.page.specs.Pages.{Filled, Grown, Wrote, Lined}
+use Rattle.page.specs.Pages.{Filled, Wrote, Lined}
 
 -- what stands below a lower mark, where what stands below a higher one is known
 below : (m n : ℕ) (xs ys text : List ℕ) → m ≤ length ys → m ≤ n → take n xs ≡ take m ys ++ text → take m xs ≡ take m ys

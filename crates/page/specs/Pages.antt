@@ -1,7 +1,7 @@
 -- What stands on a page, and what it is to put a text behind it.
 -- Bytes at the mark and past it are of no account: no promise speaks of them.
 use Prim.Native.Nat.{ℕ, _+_, _-_, _≤_, _<_}
-use mathlib.Core.Bool.{Bool, true, false, cond}
+use mathlib.Core.Bool.{Bool, cond}
 use mathlib.Core.List.{List, [], _∷_, _++_}
 use mathlib.Core.Path.{_≡_}
 use lib.Dec.{leb}
