@@ -82,12 +82,12 @@ module _ {X : Type 0} (number : X → ℕ) (t : ℕ) where
           let later = no-position (position (λ y. eqb (number y) t) xs) i p in
           let there = behind (later .0) (later .1) in
           let inside : later .0 < length xs = there .within in
-          subst (At-ticket number t (x ∷ xs)) (sym (later .2)) (record
-            { within = omega arith
-            ; found = λ d. rw q (there .found d)
-            ; rest = rw (q, there .rest)
-            ; written = λ y h. rw (h, q, there .written y h)
-            })
+          subst (At-ticket number t (x ∷ xs)) (sym (later .2)) (record {
+            within = omega arith;
+            found = λ d. rw q (there .found d);
+            rest = rw (q, there .rest);
+            written = λ y h. rw (h, q, there .written y h);
+          })
 
   pub no-ticket : (xs : List X) → position (λ x. eqb (number x) t) xs ≡ None → No-ticket number t xs
   no-ticket [] e = record { found = refl; rest = refl; written = λ y h. refl }
