@@ -1,0 +1,6 @@
+pub mod Agreeing
+pub mod Ages
+pub mod Drafting
+pub mod Folds
+pub mod KeysKept
+pub mod Rooms
