@@ -44,12 +44,12 @@ aged-more {K} limit v w w′ n below so e =
     let read = getD-default (w .places) n free (getD (w .places) n free) inside in
     let more = map-over-more F (v .places) (w .places) n (getD (w .places) n free) below places read in
     e ∙ (ap (λ rs. with-places w (set (w .places) n (place-aged (λ finish. within limit finish) rs (getD (w .places) n free)))) reports
-      ∙ (ap (with-places w) more
-      ∙ ap (λ x. with-places x (map F (take (n + 1) (v .places)) ++ drop (n + 1) (v .places))) so))
+    ∙ (ap (with-places w) more
+    ∙ ap (λ x. with-places x (map F (take (n + 1) (v .places)) ++ drop (n + 1) (v .places))) so))
 
 pub aged-all : {K : Type 0} (limit : Option ℕ) (v w : View K) (n : ℕ) → length (v .places) ≤ n → Aged-to limit v w n → w ≡ with-places v (aged limit v)
 aged-all limit v w n past so =
     let F = place-aged (λ finish. within limit finish) (v .reports) in
     so ∙ (ap (λ x. with-places v (map F x ++ drop n (v .places))) (take-all n (v .places) past)
-      ∙ (ap (λ x. with-places v (map F (v .places) ++ x)) (drop-all n (v .places) past)
-      ∙ ap (with-places v) (append-nil (map F (v .places)))))
+    ∙ (ap (λ x. with-places v (map F (v .places) ++ x)) (drop-all n (v .places) past)
+    ∙ ap (with-places v) (append-nil (map F (v .places)))))

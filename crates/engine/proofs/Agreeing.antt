@@ -90,18 +90,18 @@ module _ {K : Type 0} (order : K → K → Ordering) (total : Total order) (slot
   by-slot (Some (Some k)) s found f =
       record { long = refl; right = numbered; grows = λ m q e. e; has-number = (n, s ∙ ap (λ (x : K). Some (Some x)) (same-some k key (sym (numbered n k s) ∙ here))) }
   by-slot (Some None) s (Some m) f = record { long = refl; right = numbered; grows = λ j q e. e; has-number = (m, number-maps order total slots key m f) }
-  by-slot (Some None) s None f = record
-    { long = length-set slots n (Some key)
-    ; right = λ m k e. ⊎-elim
+  by-slot (Some None) s None f = record {
+    long = length-set slots n (Some key);
+    right = λ m k e. ⊎-elim
         (λ x. subst (λ (j : ℕ). key-of (at places j) ≡ Some k) (sym (x .0)) (here ∙ ap Some (sym (x .1))))
         (λ x. numbered m k (x .1))
-        (maps-set slots n m key k s e)
-    ; grows = λ m k e. ⊎-elim
+        (maps-set slots n m key k s e);
+    grows = λ m k e. ⊎-elim
         (λ x. let free : nth slots m ≡ Some None = subst (λ (j : ℕ). nth slots j ≡ Some None) (sym x) s in let z : _≡_ {A = ℕ} 0 1 = cc in absurd (omega arith))
         (λ x. nth-set-other slots n m (Some key) x ∙ e)
-        (cases-eq m n)
-    ; has-number = (n, nth-set-same slots n (Some key) (nth-within slots n None s))
-    }
+        (cases-eq m n);
+    has-number = (n, nth-set-same slots n (Some key) (nth-within slots n None s));
+  }
 
   pub key-added : Added (added order slots key n)
   key-added = by-slot (nth slots n) refl (number-of order slots key) refl
@@ -110,27 +110,30 @@ module _ {K : Type 0} (order : K → K → Ordering) (total : Total order) (slot
 pub taken-up : {K : Type 0} (order : K → K → Ordering) (total : Total order) (lost : Bool) (slots : List (Option K)) (places : List (Place K)) (n : ℕ) (p : Place K) (key : K) →
     n < length places → key-of (p .state) ≡ Some key → ((k : K) → key-of (at places n) ≡ Some k → k ≡ key) →
     Agree-but lost slots places → Agree-but lost (added order slots key n) (set places n p)
-taken-up {K} order total lost slots places n p key below is kept a = record
-  { enough = let l = added-so .long in let e = length-set places n p in let h = a .enough in omega arith
-  ; numbered = added-so .right
-  ; listed = λ none j k e. ⊎-elim
+taken-up {K} order total lost slots places n p key below is kept a = record {
+  enough = let l = added-so .long in let e = length-set places n p in let h = a .enough in omega arith;
+  numbered = added-so .right;
+  listed = λ none j k e. ⊎-elim
       (λ x. let m = added-so .has-number in
-        let same : k ≡ key = same-some k key (sym (subst (λ (i : ℕ). key-of (at (set places n p) i) ≡ Some k) x e) ∙ here) in
-        (m .0, subst (Maps (added order slots key n) (m .0)) (sym same) (m .1)))
+      let same : k ≡ key = same-some k key (sym (subst (λ (i : ℕ). key-of (at (set places n p) i) ≡ Some k) x e) ∙ here) in
+      (m .0, subst (Maps (added order slots key n) (m .0)) (sym same) (m .1)))
       (λ x. let m = a .listed none j k (sym (ap key-of (at-set-other places n j p x)) ∙ e) in (m .0, added-so .grows (m .0) k (m .1)))
-      (cases-eq j n)
-  }
+      (cases-eq j n);
+}
   where
     here : key-of (at (set places n p) n) ≡ Some key
     here = ap key-of (at-set-same places n p below) ∙ is
+
     right : (m : ℕ) (k : K) → Maps slots m k → key-of (at (set places n p) m) ≡ Some k
     right m k e = ⊎-elim
-      (λ x. subst (λ (j : ℕ). key-of (at (set places n p) j) ≡ Some k) (sym x)
+        (λ x. subst (λ (j : ℕ). key-of (at (set places n p) j) ≡ Some k) (sym x)
         (here ∙ ap Some (sym (kept k (subst (λ (j : ℕ). key-of (at places j) ≡ Some k) x (a .numbered m k e))))))
-      (λ x. ap key-of (at-set-other places n m p x) ∙ a .numbered m k e)
-      (cases-eq m n)
+        (λ x. ap key-of (at-set-other places n m p x) ∙ a .numbered m k e)
+        (cases-eq m n)
+
     room : length (set places n p) ≤ length slots
     room = let e = length-set places n p in let h = a .enough in omega arith
+
     added-so : Added order total slots (set places n p) n key room right here (added order slots key n)
     added-so = key-added order total slots (set places n p) n key room right here
 
@@ -142,26 +145,31 @@ given-back {K} lost slots places n p below is a = by-slot (nth slots n) refl
   where
     still : (j : ℕ) (k : K) → (j ≡ n → ⊥) → Maps slots j k → key-of (at (set places n p) j) ≡ Some k
     still j k ne e = ap key-of (at-set-other places n j p ne) ∙ a .numbered j k e
+
     elsewhere : (j : ℕ) (k : K) → key-of (at (set places n p) j) ≡ Some k → j ≡ n → ⊥
     elsewhere j k e x = clash k (sym is ∙ (sym (ap key-of (at-set-same places n p below)) ∙ subst (λ (i : ℕ). key-of (at (set places n p) i) ≡ Some k) x e))
+
     before : (j : ℕ) (k : K) → key-of (at (set places n p) j) ≡ Some k → key-of (at places j) ≡ Some k
     before j k e = sym (ap key-of (at-set-other places n j p (elsewhere j k e))) ∙ e
+
     room : length (set places n p) ≤ length slots
     room = let e = length-set places n p in let h = a .enough in omega arith
+
     unnumbered : (slot : Option (Option K)) → nth slots n ≡ slot → ((k : K) → slot ≡ Some (Some k) → ⊥) → Agree-but lost slots (set places n p)
-    unnumbered slot s never = record
-      { enough = room
-      ; numbered = λ j k e. still j k (λ x. never k (sym s ∙ subst (λ (i : ℕ). Maps slots i k) x e)) e
-      ; listed = λ none j k e. a .listed none j k (before j k e)
-      }
+    unnumbered slot s never = record {
+      enough = room;
+      numbered = λ j k e. still j k (λ x. never k (sym s ∙ subst (λ (i : ℕ). Maps slots i k) x e)) e;
+      listed = λ none j k e. a .listed none j k (before j k e);
+    }
+
     by-slot : (slot : Option (Option K)) → nth slots n ≡ slot → Agree-but (isOk (discard-by slot) || lost) (if-granted (discard-by slot) (set slots n None) slots) (set places n p)
     by-slot None s = unnumbered None s (λ k e. let z : _≡_ {A = ℕ} 0 1 = cc in omega arith)
     by-slot (Some None) s = unnumbered (Some None) s (λ k e. let z : _≡_ {A = ℕ} 0 1 = cc in omega arith)
-    by-slot (Some (Some key)) s = record
-      { enough = let e = length-set slots n None in let h = room in omega arith
-      ; numbered = λ j k e. let m = maps-cleared slots n j k e in still j k (m .1) (m .0)
-      ; listed = λ e. absurd (let z : _≡_ {A = ℕ} 0 1 = cc in omega arith)
-      }
+    by-slot (Some (Some key)) s = record {
+      enough = let e = length-set slots n None in let h = room in omega arith;
+      numbered = λ j k e. let m = maps-cleared slots n j k e in still j k (m .1) (m .0);
+      listed = λ e. absurd (let z : _≡_ {A = ℕ} 0 1 = cc in omega arith);
+    }
 
 -- the keys of the first n places have numbers again
 pub record Listed-to {K : Type 0} (n : ℕ) (slots : List (Option K)) (places : List (Place K)) : Type 0 where
@@ -175,32 +183,32 @@ listed-none lost slots places a = record { enough = a .enough; numbered = a .num
 module _ {K : Type 0} (slots : List (Option K)) (places : List (Place K)) (n : ℕ) (a : Listed-to n slots places) where
   -- the place carries no key
   pub listed-free : key-of (at places n) ≡ None → Listed-to (n + 1) slots places
-  listed-free none = record
-    { enough = a .enough
-    ; numbered = a .numbered
-    ; listed = λ j key below e. ⊎-elim
+  listed-free none = record {
+    enough = a .enough;
+    numbered = a .numbered;
+    listed = λ j key below e. ⊎-elim
         (λ x. absurd (clash key (sym none ∙ subst (λ (i : ℕ). key-of (at places i) ≡ Some key) x e)))
         (λ x. a .listed j key (omega arith) e)
-        (cases-eq j n)
-    }
+        (cases-eq j n);
+  }
 
   -- the place's key was added
   pub listed-more : (order : K → K → Ordering) → Total order → (key : K) → key-of (at places n) ≡ Some key → Listed-to (n + 1) (added order slots key n) places
   listed-more order total key here =
       let so = key-added order total slots places n key (a .enough) (a .numbered) here in
-      record
-        { enough = let l = so .long in let h = a .enough in omega arith
-        ; numbered = so .right
-        ; listed = λ j k below e. ⊎-elim
+      record {
+        enough = let l = so .long in let h = a .enough in omega arith;
+        numbered = so .right;
+        listed = λ j k below e. ⊎-elim
             (λ x. let m = so .has-number in
-              (m .0, subst (Maps (added order slots key n) (m .0)) (same-some key k (sym here ∙ subst (λ (i : ℕ). key-of (at places i) ≡ Some k) x e)) (m .1)))
+            (m .0, subst (Maps (added order slots key n) (m .0)) (same-some key k (sym here ∙ subst (λ (i : ℕ). key-of (at places i) ≡ Some k) x e)) (m .1)))
             (λ x. let m = a .listed j k (omega arith) e in (m .0, so .grows (m .0) k (m .1)))
-            (cases-eq j n)
-        }
+            (cases-eq j n);
+      }
 
   pub listed-all : length places ≤ n → Agree slots places
-  listed-all past = record
-    { enough = a .enough
-    ; numbered = a .numbered
-    ; listed = λ j key e. a .listed j key (let l = carries-below places j key e in omega arith) e
-    }
+  listed-all past = record {
+    enough = a .enough;
+    numbered = a .numbered;
+    listed = λ j key e. a .listed j key (let l = carries-below places j key e in omega arith) e;
+  }

@@ -26,7 +26,7 @@ module _ {K : Type 0} (order : K → K → Ordering) (v : View K) (t : TicketId)
       sent-back (row-left order v t key ∷ place-left order v t key ∷ []) ≡ r
   same-room r e =
       subst (λ x. sent-back (when (not (isSome (entry-at order (v .places) key x)) && is-row-full x) (plain 9) ∷ when (not (isSome (draft-at order (v .places) key x)) && all-wanted (v .reports) (v .places)) (plain 10) ∷ []) ≡ r)
-        (sym (row-found v t row found)) e
+      (sym (row-found v t row found)) e
 
   pub same-there : (r : Option Code) → when (not (record-by order (v .places) key (draft-at order (v .places) key row))) (plain 8) ≡ r → something-there order v t key ≡ r
   same-there r e = subst (λ x. when (not (record-by order (v .places) key (draft-at order (v .places) key x))) (plain 8) ≡ r) (sym (row-found v t row found)) e

@@ -3,4 +3,5 @@ pub mod Ages
 pub mod Drafting
 pub mod Folds
 pub mod KeysKept
+pub mod Opened
 pub mod Rooms

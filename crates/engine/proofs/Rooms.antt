@@ -59,10 +59,11 @@ module _ {K : Type 0} (v : View K) (n : ℕ) (below : n < length (v .places)) wh
   pub room-free : is-free (at (v .places) n) ≡ true → (all-wanted (v .reports) (v .places) ≡ false) × (ready v ≡ v .places) × Room v n
   room-free on =
       let some : any (λ p. is-free (p .state)) (v .places) ≡ true = any-at (λ p. is-free (p .state)) (v .places) n free below on in
-      let same : ready v ≡ v .places = rw some in
-      ( every-not (λ p. is-wanted (v .reports) (p .state)) (v .places) n free below (free-unwanted (v .reports) (at (v .places) n) on)
-      , same
-      , (below, subst (λ places. is-free (at places n) ≡ true) (sym same) on) )
+      let same : ready v ≡ v .places = rw some in (
+        every-not (λ p. is-wanted (v .reports) (p .state)) (v .places) n free below (free-unwanted (v .reports) (at (v .places) n) on),
+        same,
+        (below, subst (λ places. is-free (at places n) ≡ true) (sym same) on),
+      )
 
   -- there is none, and ageing makes one
   pub room-aged : any (λ p. is-free (p .state)) (v .places) ≡ false → not (is-wanted (v .reports) (at (v .places) n)) ≡ true →
@@ -71,7 +72,8 @@ module _ {K : Type 0} (v : View K) (n : ℕ) (below : n < length (v .places)) wh
       let same : ready v ≡ aged None v = rw none in
       let unwanted : is-wanted (v .reports) (at (v .places) n) ≡ false = not-true (is-wanted (v .reports) (at (v .places) n)) off in
       let taken : is-free (at (v .places) n) ≡ false = any-not (λ p. is-free (p .state)) (v .places) n free below none in
-      let there : getD (aged None v) n free ≡ place-aged (λ finish. within None finish) (v .reports) (getD (v .places) n free) = getD-map (place-aged (λ finish. within None finish) (v .reports)) (v .places) n free free below in
-      ( every-not (λ p. is-wanted (v .reports) (p .state)) (v .places) n free below unwanted
-      , same
-      , (below, subst (λ places. is-free (at places n) ≡ true) (sym same) (ap (λ p. is-free (p .state)) there ∙ unwanted-freed (v .reports) (at (v .places) n) taken unwanted)) )
+      let there : getD (aged None v) n free ≡ place-aged (λ finish. within None finish) (v .reports) (getD (v .places) n free) = getD-map (place-aged (λ finish. within None finish) (v .reports)) (v .places) n free free below in (
+        every-not (λ p. is-wanted (v .reports) (p .state)) (v .places) n free below unwanted,
+        same,
+        (below, subst (λ places. is-free (at places n) ≡ true) (sym same) (ap (λ p. is-free (p .state)) there ∙ unwanted-freed (v .reports) (at (v .places) n) taken unwanted)),
+      )

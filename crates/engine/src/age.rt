@@ -10,9 +10,9 @@ ghost use mathlib.Core.Path.{_≡_};
 use crate::store::Store;
 use index::Index;
 use ledger::PlaceEvent;
+use table::Aged;
 use table::is_freed;
 use table::place_at;
-use table::Aged;
 
 impl<I: Index> Store<I> {
     // Frees the place if ageing with the limit does. Answers whether a key has lost its number.

@@ -17,11 +17,11 @@ ghost use mathlib.Core.Path.{_≡_};
 use crate::store::Store;
 use index::Index;
 use ledger::Refusal;
+use table::HeldKey;
+use table::Row;
 use table::find_current;
 use table::find_free;
 use table::find_unwanted;
-use table::HeldKey;
-use table::Row;
 
 impl<I: Index> Store<I> {
     // A free place; where there is none, all superseded versions are aged first.
@@ -53,7 +53,14 @@ impl<I: Index> Store<I> {
         row.check_room(entry)?;
         let current = find_current(&self.table.places, key);
         let n = self.free_place()?;
-        self.table.note(row, entry, HeldKey { draft: Some(n), current });
+        self.table.note(
+            row,
+            entry,
+            HeldKey {
+                draft: Some(n),
+                current,
+            },
+        );
         Ok(n)
     }
 }

@@ -34,7 +34,13 @@ impl<I: Index> Store<I> {
     }
 
     // Makes the record the job's draft at the key.
-    pub fn put<R: Copy>(&mut self, shelf: &mut [R], job: TicketId, key: I::Key, item: R) -> Result<(), Refusal>
+    pub fn put<R: Copy>(
+        &mut self,
+        shelf: &mut [R],
+        job: TicketId,
+        key: I::Key,
+        item: R,
+    ) -> Result<(), Refusal>
         ensures answer { λ r. ⌜ Outcome (put-checks (Key·Key .order) (view (now (self .entry) .table)) (length (now (shelf .entry))) job key) (λ _. Puts (Key·Key .order) (view (now (self .entry) .table)) (view (now (self .exit) .table)) (now (shelf .entry)) (now (shelf .exit)) job key item) (Unchanged (now (self .entry)) (now (self .exit)) × (now (shelf .exit) ≡ now (shelf .entry))) (told code r) ⌝ }
         ensures index { λ _. ⌜ Keeps (I·Index .sound) (I·Index .slots) (now (self .entry)) (now (self .exit)) ⌝ }
     {
@@ -42,7 +48,13 @@ impl<I: Index> Store<I> {
         self.table.check_shelf(shelf.len())?;
         self.table.check_holder(job, key)?;
         let n = self.draft_place(row, key)?;
-        self.turn_listed(n, PlaceEvent::Put { key, job: job.number });
+        self.turn_listed(
+            n,
+            PlaceEvent::Put {
+                key,
+                job: job.number,
+            },
+        );
         write(shelf, n, item);
         Ok(())
     }
@@ -56,7 +68,13 @@ impl<I: Index> Store<I> {
         self.table.check_holder(job, key)?;
         self.table.check_there(row, key)?;
         let n = self.draft_place(row, key)?;
-        self.turn_listed(n, PlaceEvent::Remove { key, job: job.number });
+        self.turn_listed(
+            n,
+            PlaceEvent::Remove {
+                key,
+                job: job.number,
+            },
+        );
         Ok(())
     }
 }

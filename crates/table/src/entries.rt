@@ -9,8 +9,8 @@ ghost use mathlib.Core.Bool.{not, _&&_};
 ghost use mathlib.Core.Path.{_≡_};
 use crate::row::HeldKey;
 use crate::row::Row;
-use ledger::Refusal;
 use ledger::ROW_ENTRIES;
+use ledger::Refusal;
 
 impl HeldKey {
     // The place by which the key is held: that of the draft, else that of the current version.

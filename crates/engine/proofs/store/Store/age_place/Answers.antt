@@ -14,10 +14,10 @@ returns-else-is-freed g c =
     let places = vec-items (c .args .self .now .table .places) in
     let p = getD places (c .args .n) free in
     let off : is-freed (c .args .limit) (vec-items (c .args .self .now .table .reports .items)) (getD (vec-items (c .args .self .now .table .places)) (c .args .n) free .state) ≡ false =
-        ap (λ rs. is-freed (c .args .limit) rs (p .state)) (sym (c .deref-2 .ensures .value))
-        ∙ (ap (λ q. is-freed (c .args .limit) (c .deref-2 .result .now) (q .state)) (sym (c .place-at-place .ensures .answer ∙ ap (λ ps. getD ps (c .args .n) free) (c .deref .ensures .value)))
-        ∙ sym (c .if-is-freed .ensures tt .answer)) in
-    record
-      { after = sym (ap (λ b. with-places (view (c .args .self .now .table)) (set places (c .args .n) (cond b (after p Age) p))) off ∙ ap (with-places (view (c .args .self .now .table))) (set-getD places (c .args .n) free))
-      ; index = λ before a. a
-      }
+    ap (λ rs. is-freed (c .args .limit) rs (p .state)) (sym (c .deref-2 .ensures .value))
+    ∙ (ap (λ q. is-freed (c .args .limit) (c .deref-2 .result .now) (q .state)) (sym (c .place-at-place .ensures .answer ∙ ap (λ ps. getD ps (c .args .n) free) (c .deref .ensures .value)))
+    ∙ sym (c .if-is-freed .ensures tt .answer)) in
+    record {
+      after = sym (ap (λ b. with-places (view (c .args .self .now .table)) (set places (c .args .n) (cond b (after p Age) p))) off ∙ ap (with-places (view (c .args .self .now .table))) (set-getD places (c .args .n) free));
+      index = λ before a. a;
+    }

@@ -8,5 +8,5 @@ use Rattle.engine.proofs.store.Store.age_places.Given as given
 abbrev pub Inv-loop-n : given.InvT-loop-n
 Inv-loop-n g l =
     (l .count ≡ vec-len (l .entry .self .table .places))
-  × Aged-to (l .limit) (view (l .entry .self .table)) (view (l .self .table)) (l .n)
-  × Keeps-but (g .I·Index .sound) (g .I·Index .slots) (l .lost) (l .entry .self) (l .self)
+    × Aged-to (l .limit) (view (l .entry .self .table)) (view (l .self .table)) (l .n)
+    × Keeps-but (g .I·Index .sound) (g .I·Index .slots) (l .lost) (l .entry .self) (l .self)

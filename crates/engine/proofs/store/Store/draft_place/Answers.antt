@@ -29,21 +29,22 @@ returns g c =
     let v = view (c .args .self .now .table) in
     let order = g .Key·Key .order in
     let draft : draft-at order (v .places) (c .args .key) (c .args .row) ≡ None =
-        ap (λ ps. draft-at order ps (c .args .key) (c .args .row)) (sym (c .deref .ensures .value)) ∙ sym (c .in-rest .ensures tt .answer) in
+    ap (λ ps. draft-at order ps (c .args .key) (c .args .row)) (sym (c .deref .ensures .value)) ∙ sym (c .in-rest .ensures tt .answer) in
     let entry : c .entry-for-entry .result ≡ entry-at order (v .places) (c .args .key) (c .args .row) =
-        c .entry-for-entry .ensures .answer ∙ ap (λ ps. entry-at order ps (c .args .key) (c .args .row)) (c .deref-2 .ensures .value) in
+    c .entry-for-entry .ensures .answer ∙ ap (λ ps. entry-at order ps (c .args .key) (c .args .row)) (c .deref-2 .ensures .value) in
     let room = c .in-Continue-n .ensures tt .answer in
-    record
-      { answer =
-        ( passes (ap (λ o. when (not (isSome o) && is-row-full (c .args .row)) (plain 9)) (sym entry) ∙ passed _ _ _ (c .in-Continue-check-room .ensures tt .answer))
-            (passes (ap (λ o. when (not (isSome o) && all-wanted (v .reports) (v .places)) (plain 10)) draft ∙ last-passed (when (all-wanted (v .reports) (v .places)) (plain 10)) (room .0)) refl)
-        , newly (c .find-current-current .result) draft
+    record {
+      answer = (
+        passes (ap (λ o. when (not (isSome o) && is-row-full (c .args .row)) (plain 9)) (sym entry) ∙ passed _ _ _ (c .in-Continue-check-room .ensures tt .answer))
+            (passes (ap (λ o. when (not (isSome o) && all-wanted (v .reports) (v .places)) (plain 10)) draft ∙ last-passed (when (all-wanted (v .reports) (v .places)) (plain 10)) (room .0)) refl),
+        newly (c .find-current-current .result) draft
             (subst (λ ps. Finds-place (is-current-of order (c .args .key)) ps (c .find-current-current .result)) (c .deref-3 .ensures .value) (c .find-current-current .ensures .answer))
             (room .1 .0)
             (c .note .ensures .after
-              ∙ (ap (λ o. with-row (view (c .free-place .last .self .table)) (noted o (record { draft = Some (c .in-Continue-n .n); current = c .find-current-current .result }) (c .args .row))) entry
-              ∙ ap (λ u. with-row u (noted (entry-at order (v .places) (c .args .key) (c .args .row)) (record { draft = Some (c .in-Continue-n .n); current = c .find-current-current .result }) (c .args .row))) (room .1 .1))) )
-      ; index = λ a.
+            ∙ (ap (λ o. with-row (view (c .free-place .last .self .table)) (noted o (record { draft = Some (c .in-Continue-n .n); current = c .find-current-current .result }) (c .args .row))) entry
+            ∙ ap (λ u. with-row u (noted (entry-at order (v .places) (c .args .key) (c .args .row)) (record { draft = Some (c .in-Continue-n .n); current = c .find-current-current .result }) (c .args .row))) (room .1 .1))),
+      );
+      index = λ a.
           let b = c .free-place .ensures .index a in
-          (b .0, subst (Agree (g .I·Index .slots (c .free-place .last .self .index))) (sym (ap (λ u. u .places) (c .note .ensures .after))) (b .1))
-      }
+          (b .0, subst (Agree (g .I·Index .slots (c .free-place .last .self .index))) (sym (ap (λ u. u .places) (c .note .ensures .after))) (b .1));
+    }

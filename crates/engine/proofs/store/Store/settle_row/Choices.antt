@@ -7,4 +7,4 @@ use Rattle.engine.proofs.store.Store.settle_row.Given as given
 abbrev pub Inv-loop-held : given.InvT-loop-held
 Inv-loop-held g l =
     Folded-to (settled (l .stamp)) (view (l .entry .self .table)) (l .held-items) (view (l .self .table)) (l .held-index)
-  × Keeps-but (g .I·Index .sound) (g .I·Index .slots) (l .lost) (l .entry .self) (l .self)
+    × Keeps-but (g .I·Index .sound) (g .I·Index .slots) (l .lost) (l .entry .self) (l .self)
