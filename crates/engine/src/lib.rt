@@ -12,6 +12,6 @@ mod turn;
 mod walk;
 
 pub use open::MAX_PLACES;
+pub use refusal::OpenError;
 pub use refusal::OpenRefusal;
-pub use refusal::Unopened;
 pub use store::Store;
