@@ -1,0 +1,3 @@
+pub mod Apart
+pub mod Tickets
+pub mod Fitting
