@@ -148,7 +148,7 @@ module _ {K R : Type 0} (order : K → K → Ordering) (o : Numbers) where
     pub reads : Each-call (Read-is-true order) past
     pub looks : Each-call (Look-is-true order) past
     pub walks : Each-call (Walk-is-true order) past
-    pub ages : Age-is-unseen past
+    pub unseen : Age-is-unseen past
     pub full : Each-call Full-is-full past
     pub freed : Newest (Age-frees s) past
     pub goes : Goes-on past

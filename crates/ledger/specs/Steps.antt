@@ -24,7 +24,7 @@ use Rattle.ledger.specs.declared.place.PlaceState.{PlaceState}
 use Rattle.ledger.specs.declared.place.PlaceState.the-variants.{Free, Unstamped, Gone, Current, Superseded}
 use Rattle.ledger.specs.declared.place.Report.{Report}
 use Rattle.ledger.specs.Limits.{max-reports, max-jobs, last-stamp, last-ticket}
-use Rattle.ledger.specs.Words.{when, first, any, every, least}
+use Rattle.ledger.specs.Words.{when, listed, first, any, every, least}
 use Rattle.ledger.specs.Places.{after, free, is-free, is-draft-of, is-finished, is-wanted, is-settled-by, carries}
 use Rattle.ledger.specs.Versions.{Version, draft, committed, wanted, finished, has-draft, looked, finds-current, seen-at, keys-seen}
 use Rattle.ledger.specs.Control.{Job, Control, stamped, next-ticket, stamp-of, keys-of, report-opened, job-opened, report-closed, job-closed, held, other-holder, row-full}
@@ -43,18 +43,18 @@ pub record Summary (K R : Type 0) : Type 0 where
   pub places : ℕ
 
 -- the version that a place in the state holds, with the record on the shelf
-abbrev pub version-in : {K R : Type 0} → PlaceState K → R → List (Version K R)
-version-in Free r = []
-version-in (Unstamped k j) r = draft j k (Some r) ∷ []
-version-in (Gone k j) r = draft j k None ∷ []
-version-in (Current k b) r = committed k r b None ∷ []
-version-in (Superseded k b f) r = committed k r b (Some f) ∷ []
+abbrev pub version-in : {K R : Type 0} → PlaceState K → R → Option (Version K R)
+version-in Free r = None
+version-in (Unstamped k j) r = Some (draft j k (Some r))
+version-in (Gone k j) r = Some (draft j k None)
+version-in (Current k b) r = Some (committed k r b None)
+version-in (Superseded k b f) r = Some (committed k r b (Some f))
 
 -- the versions that the places hold
 abbrev pub versions-in : {K R : Type 0} → List (Place K) → List R → List (Version K R)
 versions-in [] shelf = []
 versions-in (p ∷ places) [] = []
-versions-in (p ∷ places) (r ∷ shelf) = version-in (p .state) r ++ versions-in places shelf
+versions-in (p ∷ places) (r ∷ shelf) = listed (version-in (p .state) r) ++ versions-in places shelf
 
 abbrev pub summary : {K R : Type 0} → State K R → Summary K R
 summary s = record { control = s .control; versions = versions-in (s .places) (s .shelf); places = length (s .places) }

@@ -3,13 +3,13 @@
 use mathlib.Core.Bool.{Bool, true, false, cond, not, _&&_}
 use Prim.Native.Nat.{ℕ}
 use lib.Dec.{eqb}
-use Rattle.std.specs.shelf.Lists.{List, [], _∷_, kept-by, joined}
+use Rattle.std.specs.shelf.Lists.{List, _∷_, kept-by}
 use Rattle.std.specs.Options.{isSome, valueOr}
 use Rattle.std.specs.declared.cmp.Ordering.{Ordering}
 use Rattle.std.specs.declared.option.Option.{Option}
 use Rattle.std.specs.declared.option.Option.the-variants.{Some, None}
 use Rattle.ledger.specs.declared.place.Report.{Report}
-use Rattle.ledger.specs.Words.{when, first, same, beyond}
+use Rattle.ledger.specs.Words.{when, first, picked, same, beyond}
 use Rattle.ledger.specs.Places.{spans, in-report}
 
 pub data Version (K R : Type 0) : Type 0 where
@@ -66,13 +66,13 @@ module _ {K R : Type 0} (order : K → K → Ordering) where
   seen-at s k = first (seen-in s k)
 
   -- the key of a version that a report with the stamp sees, if it is greater than the given one
-  abbrev pub key-seen : ℕ → Option K → Version K R → List K
-  key-seen s after (draft j k d) = []
-  key-seen s after (committed k r b f) = cond (spans b f s && beyond order after k) (k ∷ []) []
+  abbrev pub key-seen-in : ℕ → Option K → Version K R → Option K
+  key-seen-in s from (draft j k d) = None
+  key-seen-in s from (committed k r b f) = when (spans b f s && beyond order from k) k
 
-  -- the keys at which a report with the stamp sees a record
+  -- the keys, greater than the given one, at which a report with the stamp sees a record
   abbrev pub keys-seen : ℕ → Option K → List (Version K R) → List K
-  keys-seen s after = joined (key-seen s after)
+  keys-seen s from = picked (key-seen-in s from)
 
   -- what a job finds at a key: its own draft's record, none for its own mark, else the current record, else none
   abbrev pub looked : ℕ → K → List (Version K R) → Option R
@@ -86,16 +86,16 @@ module _ {K R : Type 0} (order : K → K → Ordering) where
   abbrev pub drafted : ℕ → K → Option R → List (Version K R) → List (Version K R)
   drafted t k d vs = draft t k d ∷ kept-by (λ v. not (isSome (draft-in t k v))) vs
 
-  -- what a job's commit at the stamp makes of a version: its drafted records become current, marks go, and the versions that they replace finish
-  abbrev pub settled : ℕ → ℕ → (K → Bool) → Version K R → List (Version K R)
-  settled t stamp written (draft j k (Some r)) = cond (eqb j t) (committed k r stamp None ∷ []) (draft j k (Some r) ∷ [])
-  settled t stamp written (draft j k None) = cond (eqb j t) [] (draft j k None ∷ [])
-  settled t stamp written (committed k r b None) = cond (written k) (committed k r b (Some stamp) ∷ []) (committed k r b None ∷ [])
-  settled t stamp written (committed k r b (Some f)) = committed k r b (Some f) ∷ []
+  -- what a job's commit at the stamp makes of a version: its drafted record becomes current, its mark goes, and a current version that it replaces finishes
+  abbrev pub settled : ℕ → ℕ → (K → Bool) → Version K R → Option (Version K R)
+  settled t stamp written (draft j k (Some r)) = Some (cond (eqb j t) (committed k r stamp None) (draft j k (Some r)))
+  settled t stamp written (draft j k None) = when (not (eqb j t)) (draft j k None)
+  settled t stamp written (committed k r b None) = Some (committed k r b (when (written k) stamp))
+  settled t stamp written (committed k r b (Some f)) = Some (committed k r b (Some f))
 
   -- all versions after the job's commit at the stamp
   abbrev pub settled-all : ℕ → ℕ → List (Version K R) → List (Version K R)
-  settled-all t stamp vs = joined (settled t stamp (λ k. has-draft t k vs)) vs
+  settled-all t stamp vs = picked (settled t stamp (λ k. has-draft t k vs)) vs
 
   -- all versions without the job's drafts
   abbrev pub without-drafts : ℕ → List (Version K R) → List (Version K R)

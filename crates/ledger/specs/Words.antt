@@ -1,7 +1,7 @@
 -- Small words on tests, lists and keys that the other definitions are written with.
 -- Stands on the standard library alone.
 use mathlib.Core.Bool.{Bool, true, false, cond, _&&_, _||_}
-use Rattle.std.specs.shelf.Lists.{List, [], _∷_}
+use Rattle.std.specs.shelf.Lists.{List, [], _∷_, joined}
 use Rattle.std.specs.Orderings.{isEq, isLt}
 use Rattle.std.specs.declared.cmp.Ordering.{Ordering}
 use Rattle.std.specs.declared.option.Option.{Option}
@@ -20,6 +20,10 @@ or-else None other = other
 abbrev pub listed : {X : Type 0} → Option X → List X
 listed None = []
 listed (Some x) = x ∷ []
+
+-- what f gives for the elements of a list, where it gives something
+abbrev pub picked : {X Y : Type 0} → (X → Option Y) → List X → List Y
+picked f = joined (λ x. listed (f x))
 
 -- what f finds first in a list
 abbrev pub first : {X Y : Type 0} → (X → Option Y) → List X → Option Y

@@ -1,0 +1,10 @@
+pub mod Lists
+pub mod Rows
+pub mod Views
+pub mod Holds
+pub mod Checks
+pub mod Begins
+pub mod Ageing
+pub mod Reads
+pub mod Drafts
+pub mod Commits
