@@ -10,12 +10,15 @@ use Rattle.std.specs.declared.option.Option.the-variants.{Some, None}
 use Rattle.ledger.specs.declared.place.Place.{Place}
 use Rattle.ledger.specs.declared.place.PlaceState.{PlaceState}
 use Rattle.ledger.specs.Words.{or-else}
-use Rattle.bridge.specs.Shape.{Entry, Row, entries-of, at}
+use Rattle.table.specs.declared.row.HeldKey.{HeldKey}
+use Rattle.table.specs.declared.row.Row.{Row}
+use Rattle.table.specs.Rows.{entries-of}
+use Rattle.table.specs.Views.{at}
 use Rattle.bridge.specs.States.{key-at, key-held, keys-held, job-in, jobs-in}
 use Rattle.bridge.specs.Soundness.{Draft-of, Current-of, Names, Entry-fits, Row-fits}
 use Rattle.bridge.proofs.Apart.{Has, differ}
 
-pub keys-cons : {K : Type 0} (ps : List (Place K)) (e : Entry) (es : List Entry) (k : K) → key-held ps e ≡ Some k → keys-held ps (e ∷ es) ≡ k ∷ keys-held ps es
+pub keys-cons : {K : Type 0} (ps : List (Place K)) (e : HeldKey) (es : List HeldKey) (k : K) → key-held ps e ≡ Some k → keys-held ps (e ∷ es) ≡ k ∷ keys-held ps es
 keys-cons ps e es k h = rw h
 
 module _ {K : Type 0} (ps qs : List (Place K)) where
@@ -36,13 +39,13 @@ module _ {K : Type 0} (ps qs : List (Place K)) where
   key-stays t k None (Some c) h nd nc = nc .0 .1
   key-stays t k None None h nd nc = differ cc
 
-  abbrev pub entry-same : (t : ℕ) (e : Entry) (f : Entry-fits ps t e) → Same-at t (f .key) → Entry-fits qs t e
+  abbrev pub entry-same : (t : ℕ) (e : HeldKey) (f : Entry-fits ps t e) → Same-at t (f .key) → Entry-fits qs t e
   entry-same t e f s =
       let d = names-same (Draft-of t (f .key)) (λ n. s n .0) (e .draft) (f .draft) in
       let c = names-same (Current-of (f .key)) (λ n. s n .1) (e .current) (f .current) in
       record { key = f .key; holds = key-stays t (f .key) (e .draft) (e .current) (f .holds) d c; draft = d; current = c }
 
-  pub entries-same : (t : ℕ) (es : List Entry) → All (Entry-fits ps t) es → ((k : K) → Has k (keys-held ps es) → Same-at t k) → All (Entry-fits qs t) es × (keys-held qs es ≡ keys-held ps es)
+  pub entries-same : (t : ℕ) (es : List HeldKey) → All (Entry-fits ps t) es → ((k : K) → Has k (keys-held ps es) → Same-at t k) → All (Entry-fits qs t) es × (keys-held qs es ≡ keys-held ps es)
   entries-same t [] f s = (tt, refl)
   entries-same t (e ∷ es) f s =
       let k = f .0 .key in

@@ -1,3 +1,6 @@
 pub mod Apart
 pub mod Tickets
 pub mod Fitting
+pub mod Versions
+pub mod Checks
+pub mod Held

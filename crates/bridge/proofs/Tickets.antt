@@ -10,7 +10,7 @@ use Rattle.std.proofs.shelf.Tests.{eqb-true, eqb-false, eq-eqb, ne-eqb}
 use Rattle.std.specs.declared.option.Option.{Option}
 use Rattle.std.specs.declared.option.Option.the-variants.{Some, None}
 use Rattle.ledger.specs.Words.{when, or-else, first}
-use Rattle.bridge.specs.Shape.{with-ticket, without-ticket, replaced}
+use Rattle.table.specs.Lists.{with-ticket, without-ticket, replaced}
 use Rattle.bridge.specs.Soundness.{Apart}
 use Rattle.bridge.proofs.Apart.{differ}
 

@@ -1,3 +1,2 @@
-pub mod Shape
 pub mod States
 pub mod Soundness

@@ -12,7 +12,11 @@ use Rattle.ledger.specs.declared.place.PlaceState.{PlaceState}
 use Rattle.ledger.specs.Limits.{last-stamp, row-entries}
 use Rattle.ledger.specs.Places.{key-of, is-draft-of, is-current}
 use Rattle.ledger.specs.Control.{Job}
-use Rattle.bridge.specs.Shape.{View, Row, Entry, entries-of, at, with-ticket}
+use Rattle.table.specs.declared.row.HeldKey.{HeldKey}
+use Rattle.table.specs.declared.row.Row.{Row}
+use Rattle.table.specs.Lists.{with-ticket}
+use Rattle.table.specs.Rows.{entries-of}
+use Rattle.table.specs.Views.{View, at, report-number, row-number}
 use Rattle.bridge.specs.States.{key-held, jobs-in}
 
 -- no two of a list are the same
@@ -43,7 +47,7 @@ Names P places None = (n : ℕ) → P (at places n) → ⊥
 Names P places (Some n) = P (at places n) × ((m : ℕ) → P (at places m) → m ≡ n)
 
 -- an entry of the job holds a key, and names the job's draft at the key and the key's current version
-pub record Entry-fits {K : Type 0} (places : List (Place K)) (job : ℕ) (e : Entry) : Type 0 where
+pub record Entry-fits {K : Type 0} (places : List (Place K)) (job : ℕ) (e : HeldKey) : Type 0 where
   pub key : K
   pub holds : key-held places e ≡ Some key
   pub draft : Names (Draft-of job key) places (e .draft)
@@ -70,10 +74,10 @@ pub record Rows {K : Type 0} (places : List (Place K)) (jobs : List Row) : Type 
   -- no key is held twice
   pub apart : Apart (all-keys (jobs-in places jobs))
   -- each draft is noted in its job's row
-  pub noted : (n t : ℕ) (k : K) → Draft-of t k (at places n) → Notes n (with-ticket (λ r. r .ticket) t jobs)
+  pub noted : (n t : ℕ) (k : K) → Draft-of t k (at places n) → Notes n (with-ticket row-number t jobs)
 
 pub record Sound {K : Type 0} (v : View K) : Type 0 where
   pub stamp : v .stamp ≤ last-stamp
-  pub reports : Given-out (v .next) (map (λ r. r .ticket) (v .reports))
-  pub jobs : Given-out (v .next) (map (λ r. r .ticket) (v .jobs))
+  pub reports : Given-out (v .next) (map report-number (v .reports))
+  pub jobs : Given-out (v .next) (map row-number (v .jobs))
   pub rows : Rows (v .places) (v .jobs)
