@@ -4,3 +4,5 @@ pub mod Fitting
 pub mod Versions
 pub mod Checks
 pub mod Held
+pub mod Outcomes
+pub mod Begins
