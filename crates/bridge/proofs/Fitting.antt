@@ -15,7 +15,7 @@ use Rattle.table.specs.declared.row.Row.{Row}
 use Rattle.table.specs.Rows.{entries-of}
 use Rattle.table.specs.Views.{at}
 use Rattle.bridge.specs.States.{key-at, key-held, keys-held, job-in, jobs-in}
-use Rattle.bridge.specs.Soundness.{Draft-of, Current-of, Names, Entry-fits, Row-fits}
+use Rattle.bridge.specs.Soundness.{Draft-of, Current-of, Names, Entry-fits, Row-fits, Rows}
 use Rattle.bridge.proofs.Apart.{Has, differ}
 
 pub keys-cons : {K : Type 0} (ps : List (Place K)) (e : HeldKey) (es : List HeldKey) (k : K) → key-held ps e ≡ Some k → keys-held ps (e ∷ es) ≡ k ∷ keys-held ps es
@@ -65,3 +65,18 @@ module _ {K : Type 0} (ps qs : List (Place K)) where
       let h = row-same r (f .0) (s .0) in
       let i = rows-same rs (f .1) (s .1) in
       ((h .0, i .0), rw (h .1, i .1))
+
+all-any : {X : Type 0} (P : X → Type 0) → ((x : X) → P x) → (xs : List X) → All P xs
+all-any P f [] = tt
+all-any P f (x ∷ xs) = (f x, all-any P f xs)
+
+-- places in which all drafts and current versions stand where they stood: no row is concerned
+module _ {K : Type 0} (ps qs : List (Place K)) (same : (t : ℕ) (k : K) → Same-at ps qs t k) (jobs : List Row) (s : Rows ps jobs) where
+  stay : All (Row-fits qs) jobs × (jobs-in qs jobs ≡ jobs-in ps jobs)
+  stay = rows-same ps qs jobs (s .fit) (all-any (Unconcerned ps qs) (λ r k h. same (r .ticket) k) jobs)
+
+  pub jobs-stay : jobs-in qs jobs ≡ jobs-in ps jobs
+  jobs-stay = stay .1
+
+  pub rows-stay : Rows qs jobs
+  rows-stay = record { fit = stay .0; apart = rw jobs-stay (s .apart); noted = λ n t k d. s .noted n t k (same t k n .0 .1 d) }

@@ -6,3 +6,4 @@ pub mod Checks
 pub mod Held
 pub mod Outcomes
 pub mod Begins
+pub mod Ages
