@@ -7,3 +7,4 @@ pub mod Held
 pub mod Outcomes
 pub mod Begins
 pub mod Ages
+pub mod Turning
