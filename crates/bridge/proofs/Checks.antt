@@ -11,6 +11,7 @@ use Rattle.std.proofs.shelf.Tests.{eqb-true}
 use Rattle.std.specs.declared.cmp.Ordering.{Ordering}
 use Rattle.std.specs.declared.option.Option.{Option}
 use Rattle.std.specs.declared.option.Option.the-variants.{Some, None}
+use Rattle.keys.specs.Refusals.{Code, plain}
 use Rattle.ledger.specs.declared.call.TicketId.{TicketId}
 use Rattle.ledger.specs.declared.place.Place.{Place}
 use Rattle.ledger.specs.Words.{when, or-else, listed, first, any, same}
@@ -21,6 +22,7 @@ use Rattle.table.specs.declared.row.Row.{Row}
 use Rattle.table.specs.Lists.{position, with-ticket}
 use Rattle.table.specs.Rows.{entries-of, place-of}
 use Rattle.table.specs.Views.{View, at, row-number, report-number, of-store, open-report, open-job}
+use Rattle.table.specs.Checks.{sent-back as first-refusal}
 use Rattle.table.specs.Holds.{carries-at, holds-key, row-holds, other-holder as holder-among}
 use Rattle.bridge.specs.States.{key-at, key-held, keys-held, job-in, jobs-in, control}
 use Rattle.bridge.proofs.Apart.{differ}
@@ -89,6 +91,11 @@ module _ {K : Type 0} (v : View K) (t : TicketId) where
       go : (b : Bool) → cond b (with-ticket row-number (t .number) (v .jobs)) None ≡ Some row → with-ticket row-number (t .number) (v .jobs) ≡ Some row
       go true e = e
       go false e = differ cc
+
+-- a call that passes the check of its ticket has an open one
+pub is-open : {X : Type 0} (o : Option X) (rest : List (Option Code)) → first-refusal (when (not (isSome o)) (plain 4) ∷ rest) ≡ None → (x : X) × (o ≡ Some x)
+is-open None rest e = differ cc
+is-open (Some x) rest e = (x, refl)
 
 -- holds
 module _ {K : Type 0} (order : K → K → Ordering) (ps : List (Place K)) (k : K) where

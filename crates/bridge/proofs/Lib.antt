@@ -8,3 +8,5 @@ pub mod Outcomes
 pub mod Begins
 pub mod Ages
 pub mod Turning
+pub mod Closing
+pub mod Aborts
