@@ -10,3 +10,4 @@ pub mod Ages
 pub mod Turning
 pub mod Closing
 pub mod Aborts
+pub mod Commits
