@@ -11,3 +11,4 @@ pub mod Turning
 pub mod Closing
 pub mod Aborts
 pub mod Commits
+pub mod Holding

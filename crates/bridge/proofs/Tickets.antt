@@ -37,6 +37,18 @@ module _ {X : Type 0} (number : X → ℕ) where
       go true eb e i = let ey : y ≡ x = cc in (subst P ey (a .0), subst (λ z. number z ≡ t) ey (eqb-true (number y) t eb))
       go false eb e i = i e
 
+  -- where no two have the same number, it is the only one with it
+  pub only-one : (t : ℕ) (xs : List X) (x : X) → with-ticket number t xs ≡ Some x → Apart (map number xs) → All (λ y. number y ≡ t → y ≡ x) xs
+  only-one t [] x e a = tt
+  only-one t (y ∷ ys) x e a = go (eqb (number y) t) refl e (λ e′. only-one t ys x e′ (a .1))
+    where
+      none : (zs : List X) → All (λ z. number y ≡ z → ⊥) (map number zs) → number y ≡ t → All (λ z. number z ≡ t → z ≡ x) zs
+      none [] b e = tt
+      none (z ∷ zs) b e = (λ f. absurd (b .0 (e ∙ sym f)), none zs (b .1) e)
+      go : (b : Bool) → eqb (number y) t ≡ b → or-else (when b y) (with-ticket number t ys) ≡ Some x → (with-ticket number t ys ≡ Some x → All (λ z. number z ≡ t → z ≡ x) ys) → All (λ z. number z ≡ t → z ≡ x) (y ∷ ys)
+      go true eb e i = (λ f. cc, none ys (a .0) (eqb-true (number y) t eb))
+      go false eb e i = (λ f. absurd (eqb-false (number y) t eb f), i e)
+
   abbrev pub others : ℕ → X → Bool
   others t x = not (eqb (number x) t)
 
