@@ -12,3 +12,4 @@ pub mod Closing
 pub mod Aborts
 pub mod Commits
 pub mod Holding
+pub mod Noting
