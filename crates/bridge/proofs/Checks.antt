@@ -17,6 +17,7 @@ use Rattle.ledger.specs.declared.place.Place.{Place}
 use Rattle.ledger.specs.Words.{when, or-else, listed, first, any, same}
 use Rattle.ledger.specs.Places.{is-key, key-of}
 use Rattle.ledger.specs.Control.{Job, stamp-of, keys-of, job-at, has-key, other-holder}
+use Rattle.ledger.specs.Steps.{told-holder}
 use Rattle.table.specs.declared.row.HeldKey.{HeldKey}
 use Rattle.table.specs.declared.row.Row.{Row}
 use Rattle.table.specs.Lists.{position, with-ticket}
@@ -96,6 +97,19 @@ module _ {K : Type 0} (v : View K) (t : TicketId) where
 pub is-open : {X : Type 0} (o : Option X) (rest : List (Option Code)) → first-refusal (when (not (isSome o)) (plain 4) ∷ rest) ≡ None → (x : X) × (o ≡ Some x)
 is-open None rest e = differ cc
 is-open (Some x) rest e = (x, refl)
+
+-- a call that passes all checks passes the first and the rest
+pub passes : (c : Option Code) (cs : List (Option Code)) → first-refusal (c ∷ cs) ≡ None → (c ≡ None) × (first-refusal cs ≡ None)
+passes None cs e = (refl, e)
+passes (Some why) cs e = differ cc
+
+pub unmet : (b : Bool) (why : Code) → when b why ≡ None → b ≡ false
+unmet true why e = differ cc
+unmet false why e = refl
+
+pub no-holder : (o : Option ℕ) → told-holder o ≡ None → o ≡ None
+no-holder None e = refl
+no-holder (Some t) e = differ cc
 
 -- holds
 module _ {K : Type 0} (order : K → K → Ordering) (ps : List (Place K)) (k : K) where

@@ -13,3 +13,5 @@ pub mod Aborts
 pub mod Commits
 pub mod Holding
 pub mod Noting
+pub mod Drafting
+pub mod Puts
