@@ -7,7 +7,7 @@ use native.Mathlib.Omega.{arith}
 use lib.Dec.{eqb}
 use Rattle.std.specs.shelf.Lists.{List, [], _∷_, _++_, length, map, getD}
 use Rattle.std.specs.Options.{isSome, mapped}
-use Rattle.std.proofs.shelf.Tests.{eqb-true}
+use Rattle.std.proofs.shelf.Tests.{eqb-true, not-false}
 use Rattle.std.specs.declared.cmp.Ordering.{Ordering}
 use Rattle.std.specs.declared.option.Option.{Option}
 use Rattle.std.specs.declared.option.Option.the-variants.{Some, None}
@@ -106,6 +106,9 @@ passes (Some why) cs e = differ cc
 pub unmet : (b : Bool) (why : Code) → when b why ≡ None → b ≡ false
 unmet true why e = differ cc
 unmet false why e = refl
+
+pub shelf-is : (m n : ℕ) → not (eqb m n) ≡ false → m ≡ n
+shelf-is m n e = eqb-true m n (not-false (eqb m n) e)
 
 pub no-holder : (o : Option ℕ) → told-holder o ≡ None → o ≡ None
 no-holder None e = refl

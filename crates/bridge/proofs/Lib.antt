@@ -15,3 +15,4 @@ pub mod Holding
 pub mod Noting
 pub mod Drafting
 pub mod Puts
+pub mod Shelves

@@ -43,18 +43,20 @@ use Rattle.table.specs.Reads.{Finds-place}
 use Rattle.table.specs.Ageing.{ready}
 use Rattle.table.specs.Drafts.{turned, Room, Placed, again, newly, Drafts, Puts, Removes, put-checks, remove-checks}
 use Rattle.bridge.specs.Answers.{answer-of, exchange}
+use Rattle.bridge.specs.Shelves.{Own, kept}
 use Rattle.bridge.specs.States.{key-held, keys-held, job-in, jobs-in, control, state}
 use Rattle.bridge.specs.Soundness.{Apart, Some-of, Draft-of, Current-of, Names, Entry-fits, Row-fits, Rows, Sound}
 use Rattle.bridge.proofs.Apart.{Has, differ}
 use Rattle.bridge.proofs.Tickets.{only-one, numbers-over, replaced-is}
 use Rattle.bridge.proofs.Fitting.{Same-at, names-same, jobs-stay, rows-stay}
 use Rattle.bridge.proofs.Versions.{One, below, is-draft-at, key-true, true-draft, current-true, true-current}
-use Rattle.bridge.proofs.Checks.{position-some, position-none, keys-of-is, some-mapped, open-row, passes, unmet, no-holder, holds-is, has-key-is, position-any, holder-is}
+use Rattle.bridge.proofs.Checks.{position-some, position-none, keys-of-is, some-mapped, open-row, is-open, passes, shelf-is, unmet, no-holder, holds-is, has-key-is, position-any, holder-is}
 use Rattle.bridge.proofs.Held.{finds-named, its-row, its-entries, its-drafts, entry-names, draft-names, drafted-is, row-full-is, looked-is}
 use Rattle.bridge.proofs.Closing.{its-keys, drafted-held}
 use Rattle.bridge.proofs.Holding.{hold-same}
 use Rattle.bridge.proofs.Noting.{noted-jobs, noted-rows}
 use Rattle.bridge.proofs.Drafting.{Noted-so, noted-more, noted-set, alike-through, is-free-true, ready-same, ready-length, own-same, fresh-same, draft-here, draft-was}
+use Rattle.bridge.proofs.Shelves.{kept-same, kept-own}
 use Rattle.bridge.proofs.Outcomes.{Goes, met, by-outcome}
 
 -- the job holds the key: no more is held by another hold
@@ -174,3 +176,53 @@ module _ {K R : Type 0} (order : K → K → Ordering) (tot : Total order) (v : 
       go : (u : View K) → Placed order v u row k n → w ≡ with-places u (turned (draft-event (t .number) k d) n (u .places)) → Drafted w n
       go u (again ed eu) ew = rw (ew, eu) (own-drafted n ed)
       go u (newly c ed finds free-there eu) ew = rw (ew, eu) (new-drafted alone room n c ed finds free-there)
+
+-- the call makes the ledger's checks
+module _ {K R : Type 0} (order : K → K → Ordering) (tot : Total order) (v : View K) (own : List R) (s : Sound v) (long : length own ≡ length (v .places)) (t : TicketId) (k : K) where
+  put-met : (n : ℕ) (item : R) → met order v own (Basic (Put t k item)) n ≡ first-refusal (put-checks order v n t k)
+  put-met n item = go (open-job v t) refl
+    where
+      go : (o : Option Row) → open-job v t ≡ o → met order v own (Basic (Put t k item)) n ≡ first-refusal (put-checks order v n t k)
+      go None e = rw (keys-of-is v t, e)
+      go (Some row) e = let found = open-row v t row e in
+          rw (keys-of-is v t, e, holder-is order (v .places) k (t .number) (v .jobs), row-full-is v s (t .number) row found order tot k, drafted-is v s (t .number) row found order tot k own long)
+
+  remove-met : (n : ℕ) → met order v own (Basic (Remove t k)) n ≡ first-refusal (remove-checks order v t k)
+  remove-met n = go (open-job v t) refl
+    where
+      go : (o : Option Row) → open-job v t ≡ o → met order v own (Basic (Remove t k)) n ≡ first-refusal (remove-checks order v t k)
+      go None e = rw (keys-of-is v t, e)
+      go (Some row) e = let found = open-row v t row e in
+          rw (keys-of-is v t, e, holder-is order (v .places) k (t .number) (v .jobs), looked-is v s (t .number) row found order tot k own long, row-full-is v s (t .number) row found order tot k, drafted-is v s (t .number) row found order tot k own long)
+
+  module _ (one : (q : K) → One (is-current-of order q) (v .places)) (w : View K) (r : Result Unit Refusal) where
+    row-known : (row : Row) → open-job v t ≡ Some row → row-of v t ≡ row
+    row-known row e = rw e
+
+    pub remove-goes : (n : ℕ) → Outcome (remove-checks order v t k) (λ u. Removes order v w t k) (w ≡ v) (told code r) → Goes order v own (Basic (Remove t k)) n (answer-of (λ u. Done) r) w own
+    remove-goes n h = by-outcome order v w own own (Basic (Remove t k)) n (λ u. Done) (remove-checks order v t k) (λ u. Removes order v w t k) (w ≡ v) r (remove-met n) h s (λ e. (e, refl))
+        (λ u e x.
+          let p1 = passes (job-open v t) (not-held order v t k ∷ something-there order v t k ∷ row-left order v t k ∷ place-left order v t k ∷ []) e in
+          let p2 = passes (not-held order v t k) (something-there order v t k ∷ row-left order v t k ∷ place-left order v t k ∷ []) (p1 .1) in
+          let p3 = passes (something-there order v t k) (row-left order v t k ∷ place-left order v t k ∷ []) (p2 .1) in
+          let p4 = passes (row-left order v t k) (place-left order v t k ∷ []) (p3 .1) in
+          let o = is-open (open-job v t) [] (rw (p1 .0) refl) in
+          let y = drafted order tot v own s long one t k None (o .0) (o .1) w (x .0) (no-holder (holder-among order (v .places) k (t .number) (v .jobs)) (p2 .0))
+              (subst (λ row. (not (isSome (entry-at order (v .places) k row)) && is-row-full row) ≡ false) (row-known (o .0) (o .1)) (unmet (not (isSome (entry-at order (v .places) k (row-of v t))) && is-row-full (row-of v t)) (plain 9) (p4 .0))) (x .1) in
+          (record { answer = refl; control = y .0; moves = y .1 }, y .2))
+
+    pub put-goes : (handed left : List R) (item : R) → Own own handed → Outcome (put-checks order v (length handed) t k) (λ u. Puts order v w handed left t k item) ((w ≡ v) × (left ≡ handed)) (told code r)
+        → Goes order v own (Basic (Put t k item)) (length handed) (answer-of (λ u. Done) r) w (kept own handed left)
+    put-goes handed left item mine h = by-outcome order v w own (kept own handed left) (Basic (Put t k item)) (length handed) (λ u. Done) (put-checks order v (length handed) t k) (λ u. Puts order v w handed left t k item) ((w ≡ v) × (left ≡ handed)) r (put-met (length handed) item) h s
+        (λ e. (e .0, ap (kept own handed) (e .1) ∙ kept-same own handed mine))
+        (λ u e x.
+          let p1 = passes (job-open v t) (shelf-fits v (length handed) ∷ not-held order v t k ∷ row-left order v t k ∷ place-left order v t k ∷ []) e in
+          let p2 = passes (shelf-fits v (length handed)) (not-held order v t k ∷ row-left order v t k ∷ place-left order v t k ∷ []) (p1 .1) in
+          let p3 = passes (not-held order v t k) (row-left order v t k ∷ place-left order v t k ∷ []) (p2 .1) in
+          let p4 = passes (row-left order v t k) (place-left order v t k ∷ []) (p3 .1) in
+          let o = is-open (open-job v t) [] (rw (p1 .0) refl) in
+          let fits : length handed ≡ length own = shelf-is (length handed) (length (v .places)) (unmet (not (eqb (length handed) (length (v .places)))) (plain 3) (p2 .0)) ∙ sym long in
+          let shelf : kept own handed left ≡ set own (x .0) item = kept-own own handed left fits ∙ (x .2 ∙ ap (λ xs. set xs (x .0) item) (mine fits)) in
+          let y = drafted order tot v own s long one t k (Some item) (o .0) (o .1) w (x .0) (no-holder (holder-among order (v .places) k (t .number) (v .jobs)) (p3 .0))
+              (subst (λ row. (not (isSome (entry-at order (v .places) k row)) && is-row-full row) ≡ false) (row-known (o .0) (o .1)) (unmet (not (isSome (entry-at order (v .places) k (row-of v t))) && is-row-full (row-of v t)) (plain 9) (p4 .0))) (x .1) in
+          (record { answer = refl; control = y .0; moves = subst (Moves order (state v own) (drafts (t .number) k (Some item)) (w .places)) (sym shelf) (y .1) }, y .2))
