@@ -1,1 +1,4 @@
+pub mod Checking
+pub mod Counting
 pub mod Positions
+pub mod Seeing

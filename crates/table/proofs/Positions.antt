@@ -1,19 +1,18 @@
 -- Positions in a list: what a search has shown after so many elements, and what stands at the position that it found.
 -- A search passes over elements one by one; the position in the rest of the list, moved on by as many, stays the position in the whole.
-use Prim.Native.Nat.{ℕ, zero, suc, _+_, _<_}
-use mathlib.Core.Bool.{Bool, true, false, cond}
+use Prim.Native.Nat.{ℕ, zero, suc, _+_, _<_, _≤_}
+use mathlib.Core.Bool.{Bool, true, false, cond, _||_}
 use mathlib.Core.List.{List, [], _∷_}
 use mathlib.Core.Path.{_≡_, refl, sym, ap, subst, _∙_}
 use native.Mathlib.Omega.{arith}
 use lib.Dec.{eqb}
 use lib.ListN.{length, getD, set, drop}
 use Rattle.std.proofs.shelf.Lists.{at-drop-more, at-drop-all}
-use Rattle.std.proofs.shelf.Tests.{eqb-true}
 use Rattle.std.specs.Holes.{removed}
-use Rattle.std.specs.Options.{mapped}
+use Rattle.std.specs.Options.{isSome, mapped}
 use Rattle.std.specs.declared.option.Option.{Option}
 use Rattle.std.specs.declared.option.Option.the-variants.{Some, None}
-use Rattle.ledger.specs.Words.{any}
+use Rattle.ledger.specs.Words.{any, first}
 use Rattle.table.specs.Lists.{position, with-ticket, without-ticket, replaced}
 
 -- a position found after the first i elements
@@ -40,12 +39,34 @@ module _ {X : Type 0} (test : X → Bool) (xs : List X) (i : ℕ) (d : X) (below
   pub position-more : test (getD xs i d) ≡ false → moved-on i (position test (drop i xs)) ≡ moved-on (i + 1) (position test (drop (i + 1) xs))
   position-more e = rw (at-next, e) (moved-one i (position test (drop (i + 1) xs)))
 
-  -- the same of whether any element passes
-  pub any-here : test (getD xs i d) ≡ true → any test (drop i xs) ≡ true
-  any-here e = at-drop-more (any test) xs i d below ∙ rw e
-
   pub any-more : test (getD xs i d) ≡ false → any test (drop i xs) ≡ any test (drop (i + 1) xs)
   any-more e = at-drop-more (any test) xs i d below ∙ rw e
+
+-- what f finds first: here, or behind the element for which it finds nothing
+module _ {X Y : Type 0} (f : X → Option Y) (xs : List X) (i : ℕ) (d : X) (below : i < length xs) where
+  pub first-here : (y : Y) → f (getD xs i d) ≡ Some y → first f (drop i xs) ≡ Some y
+  first-here y e = at-drop-more (first f) xs i d below ∙ rw e
+
+  pub first-more : f (getD xs i d) ≡ None → first f (drop i xs) ≡ first f (drop (i + 1) xs)
+  first-more e = at-drop-more (first f) xs i d below ∙ rw e
+
+-- a search of a list: it ends with none where no element passed
+module _ {X : Type 0} (test : X → Bool) (xs : List X) (i : ℕ) where
+  pub search-more : (x : X) → i < length xs → x ≡ getD xs i x → test x ≡ false → any test (drop i xs) ≡ any test xs → any test (drop (i + 1) xs) ≡ any test xs
+  search-more x below read off inv = sym (any-more test xs i x below (sym (ap test read) ∙ off)) ∙ inv
+
+  pub search-none : length xs ≤ i → any test (drop i xs) ≡ any test xs → any test xs ≡ false
+  search-none past inv = sym inv ∙ at-drop-all (any test) xs i past
+
+-- some element passes just where one has a position
+pub any-position : {X : Type 0} (test : X → Bool) (xs : List X) → isSome (position test xs) ≡ any test xs
+any-position test [] = refl
+any-position test (x ∷ xs) = go (test x) (position test xs) (any-position test xs)
+  where
+    go : (b : Bool) (o : Option ℕ) → isSome o ≡ any test xs → isSome (cond b (Some zero) (mapped suc o)) ≡ (b || any test xs)
+    go true o e = refl
+    go false None e = e
+    go false (Some n) e = e
 
 -- what stands at the position of a ticket
 pub record At-ticket {X : Type 0} (number : X → ℕ) (t : ℕ) (xs : List X) (i : ℕ) : Type 0 where
