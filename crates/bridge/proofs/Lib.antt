@@ -16,3 +16,6 @@ pub mod Noting
 pub mod Drafting
 pub mod Puts
 pub mod Shelves
+pub mod Reading
+pub mod Looks
+pub mod Reached

@@ -29,7 +29,7 @@ use Rattle.ledger.specs.Words.{when, any}
 use Rattle.ledger.specs.Places.{free, after, is-free, is-draft-of}
 use Rattle.ledger.specs.Versions.{has-draft}
 use Rattle.ledger.specs.Calls.{drafts}
-use Rattle.ledger.specs.Control.{Job, has-key, other-holder, holding, held}
+use Rattle.ledger.specs.Control.{Job, has-key, other-holder, holding, held-if}
 use Rattle.ledger.specs.Steps.{State, Granted, Moves, Takes, versions-in, draft-event, shelved, all-wanted}
 use Rattle.ledger.specs.Steps.{ready as ledger-ready}
 use Rattle.table.specs.declared.row.HeldKey.{HeldKey}
@@ -73,7 +73,7 @@ module _ {K R : Type 0} (order : K → K → Ordering) (tot : Total order) (v : 
 
   -- what a granted put or remove does to the control state, the places and the shelf, and that the table stays sound
   abbrev Drafted : View K → ℕ → Type 0
-  Drafted w n = (control w ≡ held order (control v) t k) × Moves order (state v own) (drafts (t .number) k d) (w .places) (shelved d n own) × Sound w
+  Drafted w n = (control w ≡ held-if order true (control v) t k) × Moves order (state v own) (drafts (t .number) k d) (w .places) (shelved d n own) × Sound w
 
   own-drafted : (n : ℕ) → row-draft order (v .places) k row ≡ Some n → Drafted (with-places v (turned (draft-event (t .number) k d) n (v .places))) n
   own-drafted n ed =

@@ -64,17 +64,22 @@ module _ {K R : Type 0} (order : K → K → Ordering) (tot : Total order) (v : 
           ; moves = (refl, refl)
           }, s))
 
--- the keys that a report sees, by places
-module _ {K R : Type 0} (order : K → K → Ordering) (st : ℕ) (from : Option K) where
-  -- the key that a place shows
+-- the key that a place shows
+module _ {K : Type 0} (order : K → K → Ordering) (st : ℕ) (from : Option K) where
   abbrev Shows : PlaceState K → K → Type 0
   Shows p q = (is-seen-at st p ≡ true) × (key-of p ≡ Some q) × (beyond order from q ≡ true)
 
-  one-all : (P : K → Type 0) (b : Bool) (q : K) → (b ≡ true → P q) → All P (listed (when b q))
-  one-all P true q h = (h refl, tt)
-  one-all P false q h = tt
+one-all : {K : Type 0} (P : K → Type 0) (b : Bool) (q : K) → (b ≡ true → P q) → All P (listed (when b q))
+one-all P true q h = (h refl, tt)
+one-all P false q h = tt
 
-  place-all : (P : K → Type 0) (p : PlaceState K) (r : R) (vs : List (Version K R)) → ((q : K) → Shows p q → P q) → All P (keys-seen order st from vs) → All P (keys-seen order st from (listed (version-in p r) ++ vs))
+in-right : {K : Type 0} (k : K) (xs ys : List K) → In k ys → In k (xs ++ ys)
+in-right k [] ys h = h
+in-right k (x ∷ xs) ys h = inr (in-right k xs ys h)
+
+-- the keys that a report sees, by places
+module _ {K R : Type 0} (order : K → K → Ordering) (st : ℕ) (from : Option K) where
+  place-all : (P : K → Type 0) (p : PlaceState K) (r : R) (vs : List (Version K R)) → ((q : K) → Shows order st from p q → P q) → All P (keys-seen order st from vs) → All P (keys-seen order st from (listed (version-in p r) ++ vs))
   place-all P Free r vs h a = a
   place-all P (Unstamped q j) r vs h a = a
   place-all P (Gone q j) r vs h a = a
@@ -83,21 +88,12 @@ module _ {K R : Type 0} (order : K → K → Ordering) (st : ℕ) (from : Option
   place-all P (Superseded q b f) r vs h a = all-append P (listed (when (spans b (Some f) st && beyond order from q) q)) (keys-seen order st from vs)
       (one-all P (spans b (Some f) st && beyond order from q) q (λ e. let x = and-parts (spans b (Some f) st) (beyond order from q) e in h q (x .0, refl, x .1))) a
 
-  keys-all : (P : K → Type 0) (ps : List (Place K)) (shelf : List R) → ((n : ℕ) (q : K) → Shows (at ps n) q → P q) → All P (keys-seen order st from (versions-in ps shelf))
+  keys-all : (P : K → Type 0) (ps : List (Place K)) (shelf : List R) → ((n : ℕ) (q : K) → Shows order st from (at ps n) q → P q) → All P (keys-seen order st from (versions-in ps shelf))
   keys-all P [] shelf h = tt
   keys-all P (p ∷ ps) [] h = tt
   keys-all P (p ∷ ps) (r ∷ rs) h = place-all P (p .state) r (versions-in ps rs) (h 0) (keys-all P ps rs (λ n. h (suc n)))
 
-  in-left : (k : K) (xs ys : List K) → In k xs → In k (xs ++ ys)
-  in-left k [] ys h = absurd h
-  in-left k (x ∷ xs) ys (inl e) = inl e
-  in-left k (x ∷ xs) ys (inr h) = inr (in-left k xs ys h)
-
-  in-right : (k : K) (xs ys : List K) → In k ys → In k (xs ++ ys)
-  in-right k [] ys h = h
-  in-right k (x ∷ xs) ys h = inr (in-right k xs ys h)
-
-  here : (p : PlaceState K) (r : R) (vs : List (Version K R)) (k : K) → Shows p k → In k (keys-seen order st from (listed (version-in p r) ++ vs))
+  here : (p : PlaceState K) (r : R) (vs : List (Version K R)) (k : K) → Shows order st from p k → In k (keys-seen order st from (listed (version-in p r) ++ vs))
   here Free r vs k h = differ cc
   here (Unstamped q j) r vs k h = differ cc
   here (Gone q j) r vs k h = differ cc
@@ -111,7 +107,7 @@ module _ {K R : Type 0} (order : K → K → Ordering) (st : ℕ) (from : Option
       go None = h
       go (Some x) = in-right k (listed (key-seen-in order st from x)) (keys-seen order st from vs) h
 
-  keys-in : (ps : List (Place K)) (shelf : List R) → length shelf ≡ length ps → (n : ℕ) (k : K) → Shows (at ps n) k → In k (keys-seen order st from (versions-in ps shelf))
+  keys-in : (ps : List (Place K)) (shelf : List R) → length shelf ≡ length ps → (n : ℕ) (k : K) → Shows order st from (at ps n) k → In k (keys-seen order st from (versions-in ps shelf))
   keys-in [] shelf e n k h = differ cc
   keys-in (p ∷ ps) [] e n k h = absurd (omega arith)
   keys-in (p ∷ ps) (r ∷ rs) e zero k h = here (p .state) r (versions-in ps rs) k h
@@ -121,7 +117,7 @@ module _ {K R : Type 0} (order : K → K → Ordering) (st : ℕ) (from : Option
     abbrev visible : K → Bool
     visible q = is-visible order ps st q && beyond order from q
 
-    shown-visible : (n : ℕ) (q : K) → Shows (at ps n) q → visible q ≡ true
+    shown-visible : (n : ℕ) (q : K) → Shows order st from (at ps n) q → visible q ≡ true
     shown-visible n q h = and-from (is-visible order ps st q) (beyond order from q)
         (any-at (is-seen-of order st q) ps n refl (and-from (is-seen-at st (at ps n)) (carries order q (at ps n)) (h .0) (true-key order tot (key-of (at ps n)) q (h .1)))) (h .2)
 
