@@ -7,8 +7,8 @@ ghost use Rattle.std.specs.Of.Vec.{vec-items};
 ghost use Rattle.table.specs.Checks.{Outcome, is-unstamped, record-by, unless};
 ghost use Rattle.table.specs.Holds.{draft-at, entry-at};
 ghost use Rattle.table.specs.Reads.{Looks, Sees, held, look-checks};
-ghost use Rattle.table.specs.Rows.{is-row-full};
-ghost use Rattle.table.specs.Views.{if-granted, view};
+ghost use Rattle.table.specs.Rows.{is-row-full, noted};
+ghost use Rattle.table.specs.Views.{if-granted, view, with-row};
 ghost use lib.ListN.{length};
 ghost use mathlib.Core.Bool.{not, _&&_};
 ghost use mathlib.Core.Path.{_≡_};
@@ -57,6 +57,13 @@ impl<K: Key> Table<K> {
             Some(_) => Ok(()),
             None => Err(Refusal::NothingThere),
         }
+    }
+
+    // Notes the entry in the row, as one more or in the place of the one at the position.
+    pub fn note(&mut self, row: Row, at: Option<usize>, entry: HeldKey)
+        ensures after { λ _. ⌜ view (now (self .exit)) ≡ with-row (view (now (self .entry))) (noted at entry row) ⌝ }
+    {
+        self.jobs.replace(row.noted(at, entry));
     }
 
     // Makes the job hold the key of the place that it found, by a new entry if it has none for it.
