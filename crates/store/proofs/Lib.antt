@@ -1,3 +1,4 @@
 pub mod Leading
 pub mod Called
 pub mod Starting
+pub mod Issued

@@ -45,3 +45,7 @@ numbers store places stamp ticket = record { store = store; places = places; sta
 abbrev pub Led-from : {I K : Type 0} → (K → K → Ordering) → (I → Type 0) → (I → List (Option K)) → (R : Type 0) → Numbers → Result (Store I K) (Unopened I) → Type 0
 Led-from order sound slots R o (Ok store) = (own : List R) → length own ≡ o .places → Led order sound slots store own o []
 Led-from order sound slots R o (Err unopened) = Unit {0}
+
+-- what a call is handed that receives no shelf
+abbrev pub no-shelf : (R : Type 0) → List R
+no-shelf R = []
