@@ -2,3 +2,4 @@ pub mod Leading
 pub mod Called
 pub mod Starting
 pub mod Issued
+pub mod Refused

@@ -4,17 +4,19 @@ use Prim.Native.Nat.{ℕ}
 use Rattle.std.specs.shelf.Lists.{List, [], _∷_, length}
 use Rattle.std.specs.declared.cmp.Ordering.{Ordering}
 use Rattle.std.specs.declared.option.Option.{Option}
+use Rattle.std.specs.declared.option.Option.the-variants.{Some}
 use Rattle.std.specs.declared.result.Result.{Result}
 use Rattle.std.specs.declared.result.Result.the-variants.{Ok, Err}
+use Rattle.keys.specs.Refusals.{Code}
 use Rattle.ledger.specs.declared.call.Call.{Call}
 use Rattle.ledger.specs.declared.answer.Answer.{Answer}
-use Rattle.ledger.specs.Calls.{Exchange}
+use Rattle.ledger.specs.Calls.{Exchange, refusal}
 use Rattle.ledger.specs.Steps.{Numbers, Run}
 use Rattle.ledger.specs.Laws.{Law}
 use Rattle.table.specs.Views.{view}
 use Rattle.engine.specs.declared.store.Store.{Store}
 use Rattle.engine.specs.declared.refusal.Unopened.{Unopened}
-use Rattle.engine.specs.Agreement.{Indexed}
+use Rattle.engine.specs.Agreement.{Indexed, Unchanged}
 use Rattle.bridge.specs.Answers.{exchange}
 use Rattle.bridge.specs.Shelves.{Own, kept}
 use Rattle.bridge.specs.States.{state}
@@ -49,3 +51,7 @@ Led-from order sound slots R o (Err unopened) = Unit {0}
 -- what a call is handed that receives no shelf
 abbrev pub no-shelf : (R : Type 0) → List R
 no-shelf R = []
+
+-- a refused call changes nothing: not the index, not the table, not the shelf
+abbrev pub Refused-leaves-all : {I K R : Type 0} → Answer K R → Store I K → Store I K → List R → List R → Type 0
+Refused-leaves-all answer store store′ handed left = (why : Code) → refusal answer ≡ Some why → Unchanged store store′ × (left ≡ handed)

@@ -1,6 +1,6 @@
 // A call as a value: what is asked of a store and its shelf, and what it answers.
 // The law of runs stands on these functions: whatever list of calls led to the store, it leads on by this one, and the law holds of it.
-ghost use Rattle.store.specs.Law.{Left-alone, Leads-on};
+ghost use Rattle.store.specs.Law.{Leads-on, Left-alone, Refused-leaves-all};
 ghost use Rattle.ledger.specs.declared.call.Call.the-variants.{Basic};
 use crate::answers::committed;
 use crate::answers::done;
@@ -19,6 +19,7 @@ pub fn ask<I: Index, R: Copy>(
     call: BasicCall<I::Key, R>,
 ) -> Answer<I::Key, R>
     ensures law { λ r. ⌜ Leads-on (Key·Key .order) (I·Index .sound) (I·Index .slots) (Basic call) r (now (store .entry)) (now (store .exit)) (now (shelf .entry)) (now (shelf .exit)) ⌝ }
+    ensures unchanged { λ r. ⌜ Refused-leaves-all r (now (store .entry)) (now (store .exit)) (now (shelf .entry)) (now (shelf .exit)) ⌝ }
     ensures astray { λ _. ⌜ Left-alone (now (store .entry)) (now (shelf .entry)) (now (shelf .exit)) ⌝ }
 {
     match call {
