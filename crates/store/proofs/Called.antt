@@ -13,22 +13,22 @@ use Rattle.keys.specs.Refusals.{Code, plain, told}
 use Rattle.keys.specs.Orders.{Total}
 use Rattle.ledger.specs.declared.call.TicketId.{TicketId}
 use Rattle.ledger.specs.declared.call.Call.{Call}
-use Rattle.ledger.specs.declared.call.Call.the-variants.{Basic}
+use Rattle.ledger.specs.declared.call.Call.the-variants.{Basic, Walk}
 use Rattle.ledger.specs.declared.call.BasicCall.the-variants.{BeginReport, BeginJob, Read, Look, Put, Remove, Commit, Abort, End, Age}
 use Rattle.ledger.specs.declared.answer.Answer.{Answer}
-use Rattle.ledger.specs.declared.answer.Answer.the-variants.{Report, Job, Record, Done, Stamp, Aged}
+use Rattle.ledger.specs.declared.answer.Answer.the-variants.{Report, Job, Record, Next, Done, Stamp, Aged}
 use Rattle.ledger.specs.declared.answer.Refusal.{Refusal}
 use Rattle.ledger.specs.Refusals.{code}
 use Rattle.table.specs.Views.{View, view, if-granted, with-places}
 use Rattle.table.specs.Checks.{checked, Outcome, row-of, report-open, job-open, shelf-fits, not-held, row-left, place-left}
 use Rattle.table.specs.Holds.{entry-at}
 use Rattle.table.specs.Begins.{begin-report-checks, begin-job-checks, next-ticket, report-opened, job-opened, report-closed}
-use Rattle.table.specs.Reads.{read-checks, look-checks, Reads, Looks, held}
+use Rattle.table.specs.Reads.{read-checks, walk-checks, look-checks, Reads, Walks, Looks, held}
 use Rattle.table.specs.Drafts.{put-checks, remove-checks, Puts, Removes}
 use Rattle.table.specs.Commits.{commit-checks, abort-checks, committed, aborted}
 use Rattle.table.specs.Ageing.{aged, looked-at, freed}
 use Rattle.engine.specs.declared.store.Store.{Store}
-use Rattle.engine.specs.Agreement.{Keeps, Unchanged}
+use Rattle.engine.specs.Agreement.{Indexed, Keeps, Unchanged}
 use Rattle.bridge.specs.Answers.{answer-of}
 use Rattle.bridge.specs.Shelves.{Own, kept}
 use Rattle.bridge.specs.Soundness.{Sound}
@@ -40,7 +40,7 @@ use Rattle.bridge.proofs.Aborts.{abort-goes}
 use Rattle.bridge.proofs.Commits.{commit-goes}
 use Rattle.bridge.proofs.Puts.{put-goes, remove-goes}
 use Rattle.bridge.proofs.Looks.{look-goes}
-use Rattle.bridge.proofs.Reading.{read-goes}
+use Rattle.bridge.proofs.Reading.{read-goes, walk-goes}
 use Rattle.store.specs.Law.{Leads-on, Left-alone}
 use Rattle.store.proofs.Leading.{keeps-same, leads, leads-shelf}
 
@@ -144,6 +144,14 @@ module _ {I K R : Type 0} (order : K → K → Ordering) (tot : Total order) (so
   read-leads t k r ec ea h = said order tot sound slots s s c a handed (Basic (Read t k)) (answer-of (λ o. Record o) r) handed ec ea
       (leads-shelf order tot sound slots s s (Basic (Read t k)) (answer-of (λ o. Record o) r) handed (λ i. i)
         (λ own mine re so. read-goes order tot (view (s .table)) own so (re .long) t (re .one-seen) k handed r mine h))
+
+  -- a walk, which changes nothing either, and goes by the index
+  pub walk-leads : (t : TicketId) (from : Option K) (r : Result (Option K) Refusal) → c ≡ Walk t from → a ≡ answer-of (λ o. Next o) r
+      → (Indexed sound slots s → Outcome (walk-checks (view (s .table)) t) (Walks order (view (s .table)) t from) (Unit {0}) (told code r))
+      → Leads-on order sound slots c a s s handed handed
+  walk-leads t from r ec ea h = said order tot sound slots s s c a handed (Walk t from) (answer-of (λ o. Next o) r) handed ec ea
+      (λ o past own mine led. leads-shelf order tot sound slots s s (Walk t from) (answer-of (λ x. Next x) r) handed (λ i. i)
+        (λ own′ mine′ re so. walk-goes order tot (view (s .table)) own′ so (re .long) t from (length handed) r (h (led .index))) o past own mine led)
 
 -- a put on a shelf of another length is refused
 pub put-astray : {I K R : Type 0} (order : K → K → Ordering) (s s′ : Store I K) (handed left : List R) (t : TicketId) (k : K) (item : R) (r : Result Unit Code)
