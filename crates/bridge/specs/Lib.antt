@@ -1,0 +1,4 @@
+pub mod States
+pub mod Soundness
+pub mod Answers
+pub mod Shelves

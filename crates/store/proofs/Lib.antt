@@ -1,0 +1,5 @@
+pub mod Leading
+pub mod Called
+pub mod Starting
+pub mod Issued
+pub mod Refused
