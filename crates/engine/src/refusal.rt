@@ -10,6 +10,7 @@ pub enum OpenRefusal {
     UnfitIndex,
 }
 
+#[derive(Drop)]
 pub enum OpenError<I> {
     Refused { why: OpenRefusal, index: I },
     // nothing is wrong with the call, but the memory for the table is not to be had

@@ -15,7 +15,7 @@ use Rattle.ledger.specs.Steps.{Numbers, Run}
 use Rattle.ledger.specs.Laws.{Law}
 use Rattle.table.specs.Views.{view}
 use Rattle.engine.specs.declared.store.Store.{Store}
-use Rattle.engine.specs.declared.refusal.Unopened.{Unopened}
+use Rattle.engine.specs.declared.refusal.OpenError.{OpenError}
 use Rattle.engine.specs.Agreement.{Indexed, Unchanged}
 use Rattle.bridge.specs.Answers.{exchange}
 use Rattle.bridge.specs.Shelves.{Own, kept}
@@ -44,9 +44,9 @@ abbrev pub numbers : ℕ → ℕ → ℕ → ℕ → Numbers
 numbers store places stamp ticket = record { store = store; places = places; stamp = stamp; ticket = ticket }
 
 -- the empty list of calls led to a store that was opened, with any shelf of its length
-abbrev pub Led-from : {I K : Type 0} → (K → K → Ordering) → (I → Type 0) → (I → List (Option K)) → (R : Type 0) → Numbers → Result (Store I K) (Unopened I) → Type 0
+abbrev pub Led-from : {I K : Type 0} → (K → K → Ordering) → (I → Type 0) → (I → List (Option K)) → (R : Type 0) → Numbers → Result (Store I K) (OpenError I) → Type 0
 Led-from order sound slots R o (Ok store) = (own : List R) → length own ≡ o .places → Led order sound slots store own o []
-Led-from order sound slots R o (Err unopened) = Unit {0}
+Led-from order sound slots R o (Err e) = Unit {0}
 
 -- what a call is handed that receives no shelf
 abbrev pub no-shelf : (R : Type 0) → List R
