@@ -8,16 +8,16 @@ use mathlib.Core.List.{List, [], _∷_}
 use mathlib.Core.Logic.{_⊎_, inl, inr, ⊎-elim}
 use mathlib.Core.Path.{_≡_, refl, sym, ap, _∙_, subst}
 use native.Mathlib.Omega.{arith}
-use lib.ListN.{length, set, replicate}
-use Rattle.keys.specs.Orders.{Total, ranked}
-use Rattle.keys.specs.Refusals.{Code, plain}
+use lib.ListN.{length, set}
+use Rattle.keys.specs.Orders.{Total}
+use Rattle.keys.specs.Refusals.{Code}
 use Rattle.std.specs.Finite.{nth}
 use Rattle.std.specs.declared.cmp.Ordering.{Ordering}
 use Rattle.std.specs.declared.cmp.Ordering.the-variants.{Equal}
 use Rattle.std.specs.declared.option.Option.{Option}
 use Rattle.std.specs.declared.option.Option.the-variants.{Some, None}
 use Rattle.std.specs.declared.result.Result.{Result}
-use Rattle.std.specs.declared.result.Result.the-variants.{Ok, Err}
+use Rattle.std.specs.declared.result.Result.the-variants.{Ok}
 use Rattle.std.proofs.shelf.Tests.{cases-eq}
 use Rattle.index.specs.Slots.{Maps, Apart, empty, behind-first, number-of, count-of, add-by, add-answer, discard-by, discard-answer, if-granted, added, discarded}
 use Rattle.index.proofs.Nth.{nth-within, nth-set-same, nth-set-other}

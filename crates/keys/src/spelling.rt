@@ -44,3 +44,33 @@ fn is_vehicle_digit(digit: u64) -> bool
 {
     !matches!(digit, 18 | 24 | 26)
 }
+
+#[cfg(test)]
+mod tests {
+    use super::*;
+    use std::test::*;
+
+    // 36 to the ninth and to the eighth: one more than the greatest numbers of nine and of eight characters.
+    const NINE_PAST: u64 = 101_559_956_668_416;
+
+    const EIGHT_PAST: u64 = 2_821_109_907_456;
+
+    fn made(first: u64, second: u64) -> bool {
+        VehicleKey::from_numbers(first, second).is_some()
+    }
+
+    #[test]
+    fn least_and_greatest() -> Result<(), Fail> {
+        check(made(0, 0))?;
+        check(made(NINE_PAST - 1, EIGHT_PAST - 1))?;
+        check(!made(NINE_PAST, 0))?;
+        check(!made(0, EIGHT_PAST))
+    }
+
+    #[test]
+    fn letters_left_out() -> Result<(), Fail> {
+        check(made(17, 19) && !made(18, 0) && !made(0, 18))?;
+        check(made(23, 25) && !made(24, 0) && !made(0, 24))?;
+        check(made(25, 27) && !made(26, 0) && !made(0, 26 * BASE))
+    }
+}

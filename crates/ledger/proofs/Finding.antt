@@ -111,6 +111,10 @@ all-none {X} p (x ∷ xs) e = (go (p x) refl, all-none p xs (omega (arith, sumBy
 abbrev pub found : {X Y : Type 0} → (X → Option Y) → X → Bool
 found f x = isSome (f x)
 
+pub none-if : {X : Type 0} (o : Option X) → isSome o ≡ false → o ≡ None
+none-if None e = refl
+none-if (Some x) e = never true e refl
+
 pub found-when : {X : Type 0} (b : Bool) (x : X) → isSome (when b x) ≡ b
 found-when true x = refl
 found-when false x = refl
@@ -196,4 +200,3 @@ first-perm {X} {Y} f (swap {x} {y} {xs} {ys} p) h =
     first-swap (f x) (f y) (first f xs) (omega (arith, sumBy-cons (λ x. cond (found f x) 1 0) x (y ∷ xs), sumBy-cons (λ x. cond (found f x) 1 0) y xs))
     ∙ ap (λ o. or-else (f y) (or-else (f x) o)) (first-perm f p (omega (arith, sumBy-cons (λ x. cond (found f x) 1 0) x (y ∷ xs), sumBy-cons (λ x. cond (found f x) 1 0) y xs)))
 first-perm f (then {xs} {ys} p q) h = first-perm f p h ∙ first-perm f q (subst (λ n. n ≤ 1) (perm-sum (λ x. cond (found f x) 1 0) p) h)
-

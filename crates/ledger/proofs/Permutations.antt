@@ -51,8 +51,8 @@ perm-turn (x ∷ xs) ys = then (skip (perm-turn xs ys)) (perm-front x ys xs)
 pub perm-shift : {X : Type 0} (xs ys zs ws : List X) → Perm ws (ys ++ zs) → Perm (xs ++ ws) (ys ++ (xs ++ zs))
 perm-shift xs ys zs ws p =
     then (perm-append-left xs p)
-      (then (perm-eq (xs ++ (ys ++ zs)) ((xs ++ ys) ++ zs) (sym (append-assoc xs ys zs)))
-        (then (perm-append-right zs (perm-turn xs ys)) (perm-eq ((ys ++ xs) ++ zs) (ys ++ (xs ++ zs)) (append-assoc ys xs zs))))
+    (then (perm-eq (xs ++ (ys ++ zs)) ((xs ++ ys) ++ zs) (sym (append-assoc xs ys zs)))
+    (then (perm-append-right zs (perm-turn xs ys)) (perm-eq ((ys ++ xs) ++ zs) (ys ++ (xs ++ zs)) (append-assoc ys xs zs))))
 
 pub perm-all : {X : Type 0} (P : X → Type 0) {xs ys : List X} → Perm xs ys → All P xs → All P ys
 perm-all P none a = a
@@ -75,7 +75,7 @@ perm-joined f none = none
 perm-joined f (skip {x} p) = perm-append-left (f x) (perm-joined f p)
 perm-joined f (swap {x} {y} {xs} {ys} p) =
     then (perm-shift (f x) (f y) (joined f xs) (f y ++ joined f xs) (perm-refl (f y ++ joined f xs)))
-      (perm-append-left (f y) (perm-append-left (f x) (perm-joined f p)))
+    (perm-append-left (f y) (perm-append-left (f x) (perm-joined f p)))
 perm-joined f (then p q) = then (perm-joined f p) (perm-joined f q)
 
 -- a filter picks what passes

@@ -104,6 +104,6 @@ module _ {K : Type 0} (order : K → K → Ordering) where
   abbrev pub row-full : ℕ → K → List (Job K) → Bool
   row-full t k jobs = let keys = valueOr (job-at t jobs) [] in not (has-key k keys) && leb row-entries (length keys)
 
-  -- the job with the ticket holds the key
-  abbrev pub held : Control K → TicketId → K → Control K
-  held c t k = with-jobs c (holding (t .number) k (c .jobs))
+  -- the job with the ticket holds the key, where the test says so
+  abbrev pub held-if : Bool → Control K → TicketId → K → Control K
+  held-if test c t k = with-jobs c (cond test (holding (t .number) k (c .jobs)) (c .jobs))

@@ -1,5 +1,6 @@
 pub mod Calls
 pub mod Control
+pub mod Examples
 pub mod Laws
 pub mod Ledger
 pub mod Limits

@@ -27,7 +27,7 @@ use Rattle.ledger.specs.Limits.{max-reports, max-jobs, last-stamp, last-ticket
 use Rattle.ledger.specs.Words.{when, listed, first, any, every, least}
 use Rattle.ledger.specs.Places.{after, free, is-free, is-draft-of, is-finished, is-wanted, is-settled-by, carries}
 use Rattle.ledger.specs.Versions.{Version, draft, committed, wanted, finished, has-draft, looked, finds-current, seen-at, keys-seen}
-use Rattle.ledger.specs.Control.{Job, Control, stamped, next-ticket, stamp-of, keys-of, report-opened, job-opened, report-closed, job-closed, held, other-holder, row-full}
+use Rattle.ledger.specs.Control.{Job, Control, stamped, next-ticket, stamp-of, keys-of, report-opened, job-opened, report-closed, job-closed, held-if, other-holder, row-full}
 use Rattle.ledger.specs.Calls.{Exchange, Change, keeps, drafts, commits, aborts, ages, change, refusal}
 
 pub record State (K R : Type 0) : Type 0 where
@@ -73,7 +73,6 @@ told-holder None = None
 told-holder (Some t) = Some (record { number = 7; values = t ∷ [] })
 
 module _ {K R : Type 0} (order : K → K → Ordering) where
-
   -- 6: the next running number would pass the last
   abbrev pub number-left : Summary K R → Option Code
   number-left b = when (ltb last-ticket (b .control .next)) (plain 6)
@@ -156,9 +155,9 @@ module _ {K R : Type 0} (order : K → K → Ordering) where
   control-after b (Basic BeginReport) = report-opened (b .control)
   control-after b (Basic BeginJob) = job-opened (b .control)
   control-after b (Basic (Read t k)) = b .control
-  control-after b (Basic (Look t k)) = cond (finds-current order (t .number) k (b .versions)) (held order (b .control) t k) (b .control)
-  control-after b (Basic (Put t k r)) = held order (b .control) t k
-  control-after b (Basic (Remove t k)) = held order (b .control) t k
+  control-after b (Basic (Look t k)) = held-if order (finds-current order (t .number) k (b .versions)) (b .control) t k
+  control-after b (Basic (Put t k r)) = held-if order true (b .control) t k
+  control-after b (Basic (Remove t k)) = held-if order true (b .control) t k
   control-after b (Basic (Commit t)) = stamped (job-closed (b .control) t)
   control-after b (Basic (Abort t)) = job-closed (b .control) t
   control-after b (Basic (End t)) = report-closed (b .control) t

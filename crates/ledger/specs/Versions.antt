@@ -4,12 +4,12 @@ use mathlib.Core.Bool.{Bool, true, false, cond, not, _&&_}
 use Prim.Native.Nat.{ℕ}
 use lib.Dec.{eqb}
 use Rattle.std.specs.shelf.Lists.{List, _∷_, kept-by}
-use Rattle.std.specs.Options.{isSome, valueOr}
+use Rattle.std.specs.Options.{isSome, mapped, valueOr}
 use Rattle.std.specs.declared.cmp.Ordering.{Ordering}
 use Rattle.std.specs.declared.option.Option.{Option}
 use Rattle.std.specs.declared.option.Option.the-variants.{Some, None}
 use Rattle.ledger.specs.declared.place.Report.{Report}
-use Rattle.ledger.specs.Words.{when, first, picked, same, beyond}
+use Rattle.ledger.specs.Words.{when, or-else, first, picked, same, beyond}
 use Rattle.ledger.specs.Places.{spans, in-report}
 
 pub data Version (K R : Type 0) : Type 0 where
@@ -86,12 +86,10 @@ module _ {K R : Type 0} (order : K → K → Ordering) where
   abbrev pub drafted : ℕ → K → Option R → List (Version K R) → List (Version K R)
   drafted t k d vs = draft t k d ∷ kept-by (λ v. not (isSome (draft-in t k v))) vs
 
-  -- what a job's commit at the stamp makes of a version: its drafted record becomes current, its mark goes, and a current version that it replaces finishes
+  -- what a job's commit at the stamp makes of a version: its drafted record becomes current, its mark goes, and a current version of a key that it wrote finishes
   abbrev pub settled : ℕ → ℕ → (K → Bool) → Version K R → Option (Version K R)
-  settled t stamp written (draft j k (Some r)) = Some (cond (eqb j t) (committed k r stamp None) (draft j k (Some r)))
-  settled t stamp written (draft j k None) = when (not (eqb j t)) (draft j k None)
-  settled t stamp written (committed k r b None) = Some (committed k r b (when (written k) stamp))
-  settled t stamp written (committed k r b (Some f)) = Some (committed k r b (Some f))
+  settled t stamp written (draft j k d) = cond (eqb j t) (mapped (λ r. committed k r stamp None) d) (Some (draft j k d))
+  settled t stamp written (committed k r b f) = Some (committed k r b (or-else f (when (written k) stamp)))
 
   -- all versions after the job's commit at the stamp
   abbrev pub settled-all : ℕ → ℕ → List (Version K R) → List (Version K R)

@@ -2,6 +2,7 @@
 // Stands on the key kinds; the store's code and the console's lines use these very types.
 mod answer;
 mod call;
+mod law;
 mod limits;
 mod place;
 
@@ -10,6 +11,8 @@ pub use answer::Refusal;
 pub use call::BasicCall;
 pub use call::Call;
 pub use call::TicketId;
+pub use law::law_of_runs;
+pub use law::worked_examples;
 pub use limits::LAST_STAMP;
 pub use limits::LAST_TICKET;
 pub use limits::MAX_JOBS;

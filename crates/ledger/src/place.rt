@@ -46,27 +46,41 @@ impl<K: Copy> Place<K> {
     pub fn free() -> Place<K>
         ensures answer { λ r. ⌜ r ≡ free ⌝ }
     {
-        Place { state: PlaceState::Free }
+        Place {
+            state: PlaceState::Free,
+        }
     }
 
     // The place after the event; as it was where the event does not concern it.
     pub fn on(self, event: PlaceEvent<K>) -> Place<K>
         ensures answer { λ r. ⌜ r ≡ after self event ⌝ }
     {
-        match (self.state, event) {
-            (PlaceState::Free, PlaceEvent::Put { key, job }) => Place { state: PlaceState::Unstamped { key, job } },
-            (PlaceState::Gone { key, job }, PlaceEvent::Put { .. }) => Place { state: PlaceState::Unstamped { key, job } },
-            (PlaceState::Free, PlaceEvent::Remove { key, job }) => Place { state: PlaceState::Gone { key, job } },
-            (PlaceState::Unstamped { key, job }, PlaceEvent::Remove { .. }) => Place { state: PlaceState::Gone { key, job } },
-            (PlaceState::Unstamped { key, .. }, PlaceEvent::Commit { stamp }) => Place { state: PlaceState::Current { key, begin: stamp } },
-            (PlaceState::Gone { .. }, PlaceEvent::Commit { .. }) => Place { state: PlaceState::Free },
-            (PlaceState::Current { key, begin }, PlaceEvent::Commit { stamp }) => {
-                Place { state: PlaceState::Superseded { key, begin, finish: stamp } }
-            }
-            (PlaceState::Unstamped { .. } | PlaceState::Gone { .. }, PlaceEvent::Abort) => Place { state: PlaceState::Free },
-            (PlaceState::Superseded { .. }, PlaceEvent::Age) => Place { state: PlaceState::Free },
-            _ => self,
-        }
+        let state = match (self.state, event) {
+            (PlaceState::Free, PlaceEvent::Put { key, job }) => PlaceState::Unstamped { key, job },
+            (PlaceState::Gone { key, job }, PlaceEvent::Put { .. }) => PlaceState::Unstamped {
+                key,
+                job,
+            },
+            (PlaceState::Free, PlaceEvent::Remove { key, job }) => PlaceState::Gone { key, job },
+            (PlaceState::Unstamped { key, job }, PlaceEvent::Remove { .. }) => PlaceState::Gone {
+                key,
+                job,
+            },
+            (PlaceState::Unstamped { key, .. }, PlaceEvent::Commit { stamp }) =>
+                PlaceState::Current { key, begin: stamp },
+            (PlaceState::Gone { .. }, PlaceEvent::Commit { .. }) => PlaceState::Free,
+            (PlaceState::Current { key, begin }, PlaceEvent::Commit { stamp }) =>
+                PlaceState::Superseded {
+                    key,
+                    begin,
+                    finish: stamp,
+                },
+            (PlaceState::Unstamped { .. } | PlaceState::Gone { .. }, PlaceEvent::Abort) =>
+                PlaceState::Free,
+            (PlaceState::Superseded { .. }, PlaceEvent::Age) => PlaceState::Free,
+            (unconcerned, _) => unconcerned,
+        };
+        Place { state }
     }
 
     pub fn is_free(self) -> bool
@@ -91,7 +105,8 @@ impl<K: Copy> Place<K> {
         ensures answer { λ r. ⌜ r ≡ is-draft-of job (self .state) ⌝ }
     {
         match self.state {
-            PlaceState::Unstamped { job: own, .. } | PlaceState::Gone { job: own, .. } => own == job,
+            PlaceState::Unstamped { job: own, .. } => own == job,
+            PlaceState::Gone { job: own, .. } => own == job,
             _ => false,
         }
     }
@@ -129,7 +144,8 @@ impl<K: Copy> Place<K> {
     {
         match self.state {
             PlaceState::Free => false,
-            PlaceState::Unstamped { .. } | PlaceState::Gone { .. } | PlaceState::Current { .. } => true,
+            PlaceState::Unstamped { .. } | PlaceState::Gone { .. } => true,
+            PlaceState::Current { .. } => true,
             PlaceState::Superseded { begin, finish, .. } => is_in_report(reports, begin, finish),
         }
     }

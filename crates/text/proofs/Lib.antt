@@ -1,0 +1,12 @@
+pub mod Table
+pub mod Reading
+pub mod Writing
+pub mod Spaces
+pub mod NumberTexts
+pub mod DecimalTexts
+pub mod FieldTexts
+pub mod CodeTexts
+pub mod VehicleTexts
+pub mod CoolantTexts
+pub mod RecordTexts
+pub mod ReadTexts

@@ -1,0 +1,9 @@
+pub mod Refusals
+pub mod Digits
+pub mod Decimals
+pub mod Codes
+pub mod VehicleKeys
+pub mod Fields
+pub mod Coolants
+pub mod Records
+pub mod Examples

@@ -1,0 +1,5 @@
+pub mod Changes
+pub mod Layouts
+pub mod Links
+pub mod Nodes
+pub mod Trees
