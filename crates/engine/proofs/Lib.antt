@@ -1,7 +1,9 @@
 pub mod Agreeing
 pub mod Ages
+pub mod Cursor
 pub mod Drafting
 pub mod Folds
 pub mod KeysKept
+pub mod Marking
 pub mod Opened
 pub mod Rooms

@@ -9,6 +9,7 @@ mod put;
 mod refusal;
 mod store;
 mod turn;
+mod walk;
 
 pub use open::MAX_PLACES;
 pub use refusal::OpenRefusal;
