@@ -115,6 +115,7 @@ impl<I: OrderedIndex> Store<I> {
     // The least key, greater than the given one if one is given, at which the report sees a record.
     pub fn walk(&self, report: TicketId, after: Option<I::Key>) -> Result<Option<I::Key>, Refusal>
         ensures answer { λ r. ⌜ (Indexed (I·Index .sound) (I·Index .slots) (now (self .entry)) → Outcome (walk-checks (view (now (self .entry) .table)) report) (Walks (Key·Key .order) (view (now (self .entry) .table)) report after) (Unit {0}) (told code r)) ⌝ }
+        ensures refused { λ r. ⌜ Outcome (walk-checks (view (now (self .entry) .table)) report) (λ _. Unit {0}) (Unit {0}) (told code r) ⌝ }
     {
         let open = self.table.report(report)?;
         let marks = mark_seen(&self.index, &self.table.places, open.stamp);
