@@ -1,8 +1,9 @@
-pub mod Ages
 pub mod Agreeing
+pub mod Ages
+pub mod Cursor
 pub mod Drafting
 pub mod Folds
 pub mod KeysKept
+pub mod Marking
 pub mod Opened
 pub mod Rooms
-pub mod Walking

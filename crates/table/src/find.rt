@@ -1,4 +1,4 @@
-// Places found by what they hold. Each answers some place that passes its test, or none where no place passes:
+// Places found by what they hold. Each answers some place of the kind that it looks for, or none where there is none:
 // which of several is left open, so that a faster search can stand here without a change to a caller.
 ghost use Rattle.ledger.specs.Places.{free, is-free, is-wanted};
 ghost use Rattle.table.specs.Checks.{is-current-of};
