@@ -32,12 +32,12 @@ all-free (suc p) zero = refl
 all-free (suc p) (suc n) = all-free p n
 
 new-sound : {K : Type 0} (n p s t : ℕ) → s ≤ last-stamp → Sound {K = K} (new-view n p s t)
-new-sound {K} n p s t le = record
-  { stamp = le
-  ; reports = (tt, tt)
-  ; jobs = (tt, tt)
-  ; rows = record { fit = tt; apart = tt; noted = λ m u k d. let z : Draft-of u k Free = subst (Draft-of u k) (all-free p m) d in differ cc }
-  }
+new-sound {K} n p s t le = record {
+  stamp = le;
+  reports = (tt, tt);
+  jobs = (tt, tt);
+  rows = record { fit = tt; apart = tt; noted = λ m u k d. let z : Draft-of u k Free = subst (Draft-of u k) (all-free p m) d in differ cc };
+}
 
 third : (a b c d e : Bool) → (a || b || c || d || e) ≡ false → c ≡ false
 third a b false d e h = refl
@@ -50,8 +50,8 @@ led-from R order sound slots i n p s t (Err u) h = tt
 led-from {I} {K} R order sound slots i n p s t (Ok st) h = λ own e.
     let a = passes (in-range p s t) (index-fits (slots i) p ∷ []) (h .0) in
     let b = third (ltb p 1) (ltb max-places p) (ltb last-stamp s) (ltb t 1) (ltb last-ticket t) (unmet (ltb p 1 || ltb max-places p || ltb last-stamp s || ltb t 1 || ltb last-ticket t) (plain 1) (a .0)) in
-    record
-      { run = subst (λ (v : View K). Run order (numbers n p s t) [] (state v own)) (sym (h .2)) (record { control = refl; places = refl; shelf = e })
-      ; table = subst Sound (sym (h .2)) (new-sound n p s t (ltb-false last-stamp s b))
-      ; index = h .3
-      }
+    record {
+      run = subst (λ (v : View K). Run order (numbers n p s t) [] (state v own)) (sym (h .2)) (record { control = refl; places = refl; shelf = e });
+      table = subst Sound (sym (h .2)) (new-sound n p s t (ltb-false last-stamp s b));
+      index = h .3;
+    }
