@@ -97,14 +97,16 @@ module _ {K : Type 0} (ps : List (Place K)) (t : ℕ) (es : List HeldKey) (fits 
   pub aborted-is : Apart (keys-held ps es) → ((n : ℕ) (k : K) → Draft-of t k (at ps n) → Some-of (λ e. e .draft ≡ Some n) es) → folded undone ps es ≡ map (place-aborted t) ps
   aborted-is apart noted = turns ∙ same-places (place-aborted t) ps (folded (turn Abort) ps (joined drafted es)) (turned-length Abort (joined drafted es) ps)
       (λ n. ⊎-elim
-        (λ x. x .1 ∙ sym (stays n (bool-false (is-draft-of t (at ps n)) (λ e. let k = draft-key t (at ps n) e in x .0 (noted-turned n es (noted n (k .0) (k .1)))))))
-        (λ x. x .1 ∙ sym (goes n (turned-draft n es fits (x .0))))
-        (turned-once Abort refl (joined drafted es) ps (names-apart ps t drafted own es fits apart .0) n))
+      (λ x. x .1 ∙ sym (stays n (bool-false (is-draft-of t (at ps n)) (λ e. let k = draft-key t (at ps n) e in x .0 (noted-turned n es (noted n (k .0) (k .1)))))))
+      (λ x. x .1 ∙ sym (goes n (turned-draft n es fits (x .0))))
+      (turned-once Abort refl (joined drafted es) ps (names-apart ps t drafted own es fits apart .0) n))
     where
       turns : folded undone ps es ≡ folded (turn Abort) ps (joined drafted es)
       turns = entries-turn Abort undone drafted undone-turns es ps
+
       stays : (n : ℕ) → is-draft-of t (at ps n) ≡ false → place-aborted t (getD ps n free) ≡ getD ps n free
       stays n e = rw e
+
       goes : (n : ℕ) → is-draft-of t (at ps n) ≡ true → place-aborted t (getD ps n free) ≡ after (getD ps n free) Abort
       goes n e = rw e
 
@@ -151,25 +153,29 @@ module _ {K : Type 0} (t : ℕ) where
 
 module _ {K R : Type 0} (order : K → K → Ordering) (v : View K) (own : List R) (n : ℕ) (s : Sound v) (t : TicketId) where
   abort-granted : (row : Row) → open-job v t ≡ Some row → Granted order (state v own) (exchange (Basic (Abort-call t)) n Done) (state (aborted v t) own) × Sound (aborted v t)
-  abort-granted row e =
-      (record
-        { answer = refl
-        ; control = ap (λ js. record { store = v .store; stamp = v .stamp; next = v .next; reports = v .reports; jobs = js }) (subst (λ qs. jobs-in qs (without-ticket row-number (t .number) (v .jobs)) ≡ jobs-but (t .number) (jobs-in (v .places) (v .jobs))) (sym places) (closed-jobs (v .places) (map (place-aborted (t .number)) (v .places)) (v .jobs) (t .number) (s .jobs .0) (s .rows) unconcerned back))
-        ; moves = (places, refl)
-        },
-        record
-        { stamp = s .stamp
-        ; reports = s .reports
-        ; jobs = rw (without-is row-number (t .number) (v .jobs) (s .jobs .0)) (given-kept row-number (others row-number (t .number)) (v .next) (v .jobs) (s .jobs))
-        ; rows = subst (λ qs. Rows qs (without-ticket row-number (t .number) (v .jobs))) (sym places) (closed-rows (v .places) (map (place-aborted (t .number)) (v .places)) (v .jobs) (t .number) (s .jobs .0) (s .rows) unconcerned back)
-        })
+  abort-granted row e = (
+    record {
+      answer = refl;
+      control = ap (λ js. record { store = v .store; stamp = v .stamp; next = v .next; reports = v .reports; jobs = js }) (subst (λ qs. jobs-in qs (without-ticket row-number (t .number) (v .jobs)) ≡ jobs-but (t .number) (jobs-in (v .places) (v .jobs))) (sym places) (closed-jobs (v .places) (map (place-aborted (t .number)) (v .places)) (v .jobs) (t .number) (s .jobs .0) (s .rows) unconcerned back));
+      moves = (places, refl);
+    },
+    record {
+      stamp = s .stamp;
+      reports = s .reports;
+      jobs = rw (without-is row-number (t .number) (v .jobs) (s .jobs .0)) (given-kept row-number (others row-number (t .number)) (v .next) (v .jobs) (s .jobs));
+      rows = subst (λ qs. Rows qs (without-ticket row-number (t .number) (v .jobs))) (sym places) (closed-rows (v .places) (map (place-aborted (t .number)) (v .places)) (v .jobs) (t .number) (s .jobs .0) (s .rows) unconcerned back);
+    },
+  )
     where
       found : with-ticket row-number (t .number) (v .jobs) ≡ Some row
       found = open-row v t row e
+
       places : folded undone (v .places) (entries-of (row-of v t)) ≡ map (place-aborted (t .number)) (v .places)
       places = rw e (aborted-is (v .places) (t .number) (entries-of row) (its-entries v s (t .number) row found) (its-keys v s (t .number) row found) (its-drafts v s (t .number) row found))
+
       unconcerned : All (Unconcerned (v .places) (map (place-aborted (t .number)) (v .places))) (kept-by (others row-number (t .number)) (v .jobs))
       unconcerned = all-weaker (λ r. r .ticket ≡ t .number → ⊥) (Unconcerned (v .places) (map (place-aborted (t .number)) (v .places))) (λ r ne k h. aborted-same (t .number) (v .places) (r .ticket) k ne) (kept-by (others row-number (t .number)) (v .jobs)) (kept-others row-number (t .number) (v .jobs))
+
       back : (m u : ℕ) (k : K) → Draft-of u k (at (map (place-aborted (t .number)) (v .places)) m) → Draft-of u k (at (v .places) m) × (u ≡ t .number → ⊥)
       back m u k d =
           let ne : u ≡ t .number → ⊥ = λ z. aborted-none (t .number) (v .places) m k (subst (λ x. Draft-of x k (at (map (place-aborted (t .number)) (v .places)) m)) z d) in

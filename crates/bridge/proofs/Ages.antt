@@ -83,10 +83,11 @@ module _ {K R : Type 0} where
   age-goes order v own n limit s long =
       let same = aged-same (λ f. ltb f limit) (v .reports) (v .places) in
       let looks = counts-is (finished (λ f. ltb f limit)) (is-looked-at (Some limit)) (finished-counts (λ f. ltb f limit)) (v .places) own long in
-      let frees = counts-is (λ w. finished (λ f. ltb f limit) w && not (wanted (v .reports) w)) (is-freed (Some limit) (v .reports)) (freed-counts (λ f. ltb f limit) (v .reports)) (v .places) own long in
-      (record
-        { answer = ap (λ x. Aged x (freed (Some limit) v)) (sym looks) ∙ ap (λ x. Aged (countBy (finished (λ f. ltb f limit)) (versions-in (v .places) own)) x) (sym frees)
-        ; control = ap (λ js. record { store = v .store; stamp = v .stamp; next = v .next; reports = v .reports; jobs = js }) (jobs-stay (v .places) (aged (Some limit) v) same (v .jobs) (s .rows))
-        ; moves = (refl, refl)
+      let frees = counts-is (λ w. finished (λ f. ltb f limit) w && not (wanted (v .reports) w)) (is-freed (Some limit) (v .reports)) (freed-counts (λ f. ltb f limit) (v .reports)) (v .places) own long in (
+        record {
+          answer = ap (λ x. Aged x (freed (Some limit) v)) (sym looks) ∙ ap (λ x. Aged (countBy (finished (λ f. ltb f limit)) (versions-in (v .places) own)) x) (sym frees);
+          control = ap (λ js. record { store = v .store; stamp = v .stamp; next = v .next; reports = v .reports; jobs = js }) (jobs-stay (v .places) (aged (Some limit) v) same (v .jobs) (s .rows));
+          moves = (refl, refl);
         },
-        record { stamp = s .stamp; reports = s .reports; jobs = s .jobs; rows = rows-stay (v .places) (aged (Some limit) v) same (v .jobs) (s .rows) })
+        record { stamp = s .stamp; reports = s .reports; jobs = s .jobs; rows = rows-stay (v .places) (aged (Some limit) v) same (v .jobs) (s .rows) },
+      )

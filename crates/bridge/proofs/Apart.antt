@@ -123,9 +123,10 @@ kept-map {X} {Y} f p (x ∷ xs) = go (p (f x)) (kept-map f p xs)
 
 -- the next running number is given out
 pub given-one : (n : ℕ) (xs : List ℕ) → Given-out n xs → Given-out (n + 1) (xs ++ (n ∷ []))
-given-one n xs g =
-    (apart-push n xs (g .0) (λ h. let m = some-all (λ y. y ≡ n) (λ t. t < n) xs h (g .1) in omega (arith, m .1, m .2)),
-      all-push (λ t. t < n + 1) xs n (all-weaker (λ t. t < n) (λ t. t < n + 1) (λ x lt. omega arith) xs (g .1)) (omega arith))
+given-one n xs g = (
+  apart-push n xs (g .0) (λ h. let m = some-all (λ y. y ≡ n) (λ t. t < n) xs h (g .1) in omega (arith, m .1, m .2)),
+  all-push (λ t. t < n + 1) xs n (all-weaker (λ t. t < n) (λ t. t < n + 1) (λ x lt. omega arith) xs (g .1)) (omega arith),
+)
 
 -- it is given out to another
 pub given-else : (n : ℕ) (xs : List ℕ) → Given-out n xs → Given-out (n + 1) xs

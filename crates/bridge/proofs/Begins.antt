@@ -33,38 +33,39 @@ use Rattle.bridge.proofs.Checks.{stamp-of-is, some-mapped}
 use Rattle.bridge.proofs.Outcomes.{Goes, by-checks}
 
 report-opened-sound : {K : Type 0} (v : View K) → Sound v → Sound (report-opened v)
-report-opened-sound v s = record
-  { stamp = s .stamp
-  ; reports = rw (map-append report-number (v .reports) _) (given-one (v .next) (map report-number (v .reports)) (s .reports))
-  ; jobs = given-else (v .next) (map row-number (v .jobs)) (s .jobs)
-  ; rows = s .rows
-  }
+report-opened-sound v s = record {
+  stamp = s .stamp;
+  reports = rw (map-append report-number (v .reports) _) (given-one (v .next) (map report-number (v .reports)) (s .reports));
+  jobs = given-else (v .next) (map row-number (v .jobs)) (s .jobs);
+  rows = s .rows;
+}
 
 job-opened-sound : {K : Type 0} (v : View K) → Sound v → Sound (job-opened v)
-job-opened-sound {K} v s = record
-  { stamp = s .stamp
-  ; reports = given-else (v .next) (map report-number (v .reports)) (s .reports)
-  ; jobs = rw (map-append row-number (v .jobs) _) (given-one (v .next) (map row-number (v .jobs)) (s .jobs))
-  ; rows = record
-      { fit = all-push (Row-fits (v .places)) (v .jobs) (new-row (v .next)) (s .rows .fit) (record { entries = tt; used = zero-le; long = length-replicate row-entries no-entry })
-      ; apart = subst Apart (sym keys) (s .rows .apart)
-      ; noted = λ n t k d. more n t (with-ticket row-number t (v .jobs)) refl (s .rows .noted n t k d)
-      }
-  }
+job-opened-sound {K} v s = record {
+  stamp = s .stamp;
+  reports = given-else (v .next) (map report-number (v .reports)) (s .reports);
+  jobs = rw (map-append row-number (v .jobs) _) (given-one (v .next) (map row-number (v .jobs)) (s .jobs));
+  rows = record {
+    fit = all-push (Row-fits (v .places)) (v .jobs) (new-row (v .next)) (s .rows .fit) (record { entries = tt; used = zero-le; long = length-replicate row-entries no-entry });
+    apart = subst Apart (sym keys) (s .rows .apart);
+    noted = λ n t k d. more n t (with-ticket row-number t (v .jobs)) refl (s .rows .noted n t k d);
+  };
+}
   where
     keys : all-keys (jobs-in (v .places) (v .jobs ++ (new-row (v .next) ∷ []))) ≡ all-keys (jobs-in (v .places) (v .jobs))
     keys = rw (map-append (job-in (v .places)) (v .jobs) (new-row (v .next) ∷ [])) (sym (joined-more (λ j. j .keys) [] (jobs-in (v .places) (v .jobs)) (job-in (v .places) (new-row (v .next)))) ∙ append-nil (all-keys (jobs-in (v .places) (v .jobs))))
+
     more : (n t : ℕ) (o : Option Row) → with-ticket row-number t (v .jobs) ≡ o → Notes n o → Notes n (with-ticket row-number t (v .jobs ++ (new-row (v .next) ∷ [])))
     more n t None e h = absurd h
     more n t (Some row) e h = subst (Notes n) (sym (with-more row-number t (v .jobs) (new-row (v .next) ∷ []) row e)) h
 
 report-closed-sound : {K : Type 0} (v : View K) (t : TicketId) → Sound v → Sound (report-closed v t)
-report-closed-sound v t s = record
-  { stamp = s .stamp
-  ; reports = rw (without-is report-number (t .number) (v .reports) (s .reports .0)) (given-kept report-number (others report-number (t .number)) (v .next) (v .reports) (s .reports))
-  ; jobs = s .jobs
-  ; rows = s .rows
-  }
+report-closed-sound v t s = record {
+  stamp = s .stamp;
+  reports = rw (without-is report-number (t .number) (v .reports) (s .reports .0)) (given-kept report-number (others report-number (t .number)) (v .next) (v .reports) (s .reports));
+  jobs = s .jobs;
+  rows = s .rows;
+}
 
 module _ {K R : Type 0} (order : K → K → Ordering) (v : View K) (own : List R) (n : ℕ) (s : Sound v) where
   pub begin-report-goes : (r : Result (TicketId × ℕ) Refusal) → told code r ≡ checked (begin-report-checks v) (next-ticket v, v .stamp)

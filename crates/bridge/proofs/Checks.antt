@@ -45,6 +45,7 @@ position-none {X} test (x ∷ xs) e = go (test x) refl e (λ e′. position-none
     rest : (o : Option ℕ) → mapped suc o ≡ None → o ≡ None
     rest None e = refl
     rest (Some n) e = differ cc
+
     go : (b : Bool) → test x ≡ b → cond b (Some zero) (mapped suc (position test xs)) ≡ None → (position test xs ≡ None → any test xs ≡ false) → (b || any test xs) ≡ false
     go true eb e i = differ cc
     go false eb e i = i (rest (position test xs) e)

@@ -28,10 +28,11 @@ module _ {K : Type 0} (ps : List (Place K)) where
   -- each row's keys are among those of all rows
   keys-among : (rows : List Row) → All (λ r. (k : K) → Has k (keys-held ps (entries-of r)) → Has k (all-keys (jobs-in ps rows))) rows
   keys-among [] = tt
-  keys-among (r ∷ rs) =
-      (λ k h. some-left (λ q. q ≡ k) (keys-held ps (entries-of r)) (all-keys (jobs-in ps rs)) h,
-        all-weaker (λ x. (k : K) → Has k (keys-held ps (entries-of x)) → Has k (all-keys (jobs-in ps rs))) (λ x. (k : K) → Has k (keys-held ps (entries-of x)) → Has k (all-keys (jobs-in ps (r ∷ rs))))
-          (λ x f k h. some-right (λ q. q ≡ k) (keys-held ps (entries-of r)) (all-keys (jobs-in ps rs)) (f k h)) rs (keys-among rs))
+  keys-among (r ∷ rs) = (
+    λ k h. some-left (λ q. q ≡ k) (keys-held ps (entries-of r)) (all-keys (jobs-in ps rs)) h,
+    all-weaker (λ x. (k : K) → Has k (keys-held ps (entries-of x)) → Has k (all-keys (jobs-in ps rs))) (λ x. (k : K) → Has k (keys-held ps (entries-of x)) → Has k (all-keys (jobs-in ps (r ∷ rs))))
+        (λ x f k h. some-right (λ q. q ≡ k) (keys-held ps (entries-of r)) (all-keys (jobs-in ps rs)) (f k h)) rs (keys-among rs),
+  )
 
   -- each row holds a key once
   keys-apart : (rows : List Row) → Apart (all-keys (jobs-in ps rows)) → All (λ r. Apart (keys-held ps (entries-of r))) rows
@@ -50,8 +51,8 @@ module _ {K : Type 0} (ps : List (Place K)) where
       go true e o i =
           let er : r ≡ row = cc in
           all-kept-by (others row-number t) (λ x. (k : K) → Has k (keys-held ps (entries-of x)) → Has k (keys-held ps (entries-of row)) → ⊥) rs
-            (all-weaker (λ x. (k : K) → Has k (keys-held ps (entries-of x)) → Has k (all-keys (jobs-in ps rs))) (λ x. (k : K) → Has k (keys-held ps (entries-of x)) → Has k (keys-held ps (entries-of row)) → ⊥)
-              (λ x f k h g. off-has k (keys-held ps (entries-of r)) (all-keys (jobs-in ps rs)) o (subst (λ y. Has k (keys-held ps (entries-of y))) (sym er) g) (f k h)) rs (keys-among rs))
+          (all-weaker (λ x. (k : K) → Has k (keys-held ps (entries-of x)) → Has k (all-keys (jobs-in ps rs))) (λ x. (k : K) → Has k (keys-held ps (entries-of x)) → Has k (keys-held ps (entries-of row)) → ⊥)
+          (λ x f k h g. off-has k (keys-held ps (entries-of r)) (all-keys (jobs-in ps rs)) o (subst (λ y. Has k (keys-held ps (entries-of y))) (sym er) g) (f k h)) rs (keys-among rs))
       go false e o i = (λ k h g. off-has k (keys-held ps (entries-of r)) (all-keys (jobs-in ps rs)) o h (found-one row-number (λ x. (q : K) → Has q (keys-held ps (entries-of x)) → Has q (all-keys (jobs-in ps rs))) t rs row e (keys-among rs) .0 k g), i e)
 
   pub held-has : (k : K) (es : List HeldKey) → Some-of (λ e. key-held ps e ≡ Some k) es → Has k (keys-held ps es)
@@ -89,8 +90,8 @@ module _ {K : Type 0} (ps qs : List (Place K)) (jobs : List Row) (t : ℕ) (apar
   closed-jobs = rw (without-is row-number t jobs apart) but-one
 
   pub closed-rows : Rows qs (without-ticket row-number t jobs)
-  closed-rows = rw (without-is row-number t jobs apart) (record
-    { fit = rest .0
-    ; apart = subst (λ js. Apart (all-keys js)) (sym but-one) (apart-joined-kept (λ j. j .keys) (λ j. not (eqb (j .ticket) t)) (jobs-in ps jobs) (s .apart))
-    ; noted = λ n u k d. let b = back n u k d in subst (Notes n) (sym (with-other row-number t u jobs (b .1))) (s .noted n u k (b .0))
-    })
+  closed-rows = rw (without-is row-number t jobs apart) (record {
+    fit = rest .0;
+    apart = subst (λ js. Apart (all-keys js)) (sym but-one) (apart-joined-kept (λ j. j .keys) (λ j. not (eqb (j .ticket) t)) (jobs-in ps jobs) (s .apart));
+    noted = λ n u k d. let b = back n u k d in subst (Notes n) (sym (with-other row-number t u jobs (b .1))) (s .noted n u k (b .0));
+  })

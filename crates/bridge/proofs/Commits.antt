@@ -159,20 +159,22 @@ module _ {K : Type 0} (ps : List (Place K)) (t now : ℕ) (es : List HeldKey) (f
     unturned n h = bool-false (is-settled-by t written (at ps n)) (λ e. ⊎-elim
         (λ x. h (entry-turns n es (some-map (λ e. e .draft ≡ Some n) (Entry-fits ps t) (λ e. Has n (settles e)) (λ e z f. draft-turns n (e .draft) (e .current) z) es (noted n (x .0) (x .1)) fits)))
         (λ x. let m = some (x .0) (x .2) in
-          h (entry-turns n es (some-map (λ e. e .draft ≡ Some (m .0)) (Entry-fits ps t) (λ e. Has n (settles e)) (λ e z f. current-turns (m .0) n (x .0) (f .key) (e .draft) (e .current) (f .draft) (f .current) z (m .1) (x .1)) es (noted (m .0) (x .0) (m .1)) fits)))
+        h (entry-turns n es (some-map (λ e. e .draft ≡ Some (m .0)) (Entry-fits ps t) (λ e. Has n (settles e)) (λ e z f. current-turns (m .0) n (x .0) (f .key) (e .draft) (e .current) (f .draft) (f .current) z (m .1) (x .1)) es (noted (m .0) (x .0) (m .1)) fits)))
         (settled-cases t written (at ps n) e))
 
     pub settled-is : Apart (keys-held ps es) → folded (settled now) ps es ≡ map (place-settled t now written) ps
     settled-is apart = turns ∙ same-places (place-settled t now written) ps (folded (turn (Commit now)) ps (joined settles es)) (turned-length (Commit now) (joined settles es) ps)
         (λ n. ⊎-elim
-          (λ x. x .1 ∙ sym (stays n (unturned n (x .0))))
-          (λ x. x .1 ∙ sym (goes n (let y = turned-cases n es fits (x .0) in ⊎-elim (λ d. draft-settled t written (at ps n) (d .0)) (λ c. current-settled t written (y .0) (at ps n) (c .0) (all (y .0) (c .1 .0) (c .1 .1))) (y .1))))
-          (turned-once (Commit now) refl (joined settles es) ps (names-apart ps t settles own es fits apart .0) n))
+        (λ x. x .1 ∙ sym (stays n (unturned n (x .0))))
+        (λ x. x .1 ∙ sym (goes n (let y = turned-cases n es fits (x .0) in ⊎-elim (λ d. draft-settled t written (at ps n) (d .0)) (λ c. current-settled t written (y .0) (at ps n) (c .0) (all (y .0) (c .1 .0) (c .1 .1))) (y .1))))
+        (turned-once (Commit now) refl (joined settles es) ps (names-apart ps t settles own es fits apart .0) n))
       where
         turns : folded (settled now) ps es ≡ folded (turn (Commit now)) ps (joined settles es)
         turns = entries-turn (Commit now) (settled now) settles settled-turns es ps
+
         stays : (n : ℕ) → is-settled-by t written (at ps n) ≡ false → place-settled t now written (getD ps n free) ≡ getD ps n free
         stays n e = rw e
+
         goes : (n : ℕ) → is-settled-by t written (at ps n) ≡ true → place-settled t now written (getD ps n free) ≡ after (getD ps n free) (Commit now)
         goes n e = rw e
 
@@ -286,27 +288,30 @@ module _ {K R : Type 0} (order : K → K → Ordering) (tot : Total order) (v : 
   after-commit = map (place-settled (t .number) (v .stamp + 1) written) (v .places)
 
   commit-granted : (row : Row) → open-job v t ≡ Some row → leb last-stamp (v .stamp) ≡ false → Granted order (state v own) (exchange (Basic (Commit-call t)) n (Stamp (v .stamp + 1))) (state (committed v t) own) × Sound (committed v t)
-  commit-granted row e room =
-      (record
-        { answer = refl
-        ; control = ap (λ js. record { store = v .store; stamp = v .stamp + 1; next = v .next; reports = v .reports; jobs = js }) (subst (λ qs. jobs-in qs (without-ticket row-number (t .number) (v .jobs)) ≡ jobs-but (t .number) (jobs-in (v .places) (v .jobs))) (sym places) (closed-jobs (v .places) after-commit (v .jobs) (t .number) (s .jobs .0) (s .rows) unconcerned (settled-back (t .number) (v .stamp + 1) written (v .places))))
-        ; moves = (places, refl)
-        },
-        record
-        { stamp = omega (arith, leb-false last-stamp (v .stamp) room)
-        ; reports = s .reports
-        ; jobs = rw (without-is row-number (t .number) (v .jobs) (s .jobs .0)) (given-kept row-number (others row-number (t .number)) (v .next) (v .jobs) (s .jobs))
-        ; rows = subst (λ qs. Rows qs (without-ticket row-number (t .number) (v .jobs))) (sym places) (closed-rows (v .places) after-commit (v .jobs) (t .number) (s .jobs .0) (s .rows) unconcerned (settled-back (t .number) (v .stamp + 1) written (v .places)))
-        })
+  commit-granted row e room = (
+    record {
+      answer = refl;
+      control = ap (λ js. record { store = v .store; stamp = v .stamp + 1; next = v .next; reports = v .reports; jobs = js }) (subst (λ qs. jobs-in qs (without-ticket row-number (t .number) (v .jobs)) ≡ jobs-but (t .number) (jobs-in (v .places) (v .jobs))) (sym places) (closed-jobs (v .places) after-commit (v .jobs) (t .number) (s .jobs .0) (s .rows) unconcerned (settled-back (t .number) (v .stamp + 1) written (v .places))));
+      moves = (places, refl);
+    },
+    record {
+      stamp = omega (arith, leb-false last-stamp (v .stamp) room);
+      reports = s .reports;
+      jobs = rw (without-is row-number (t .number) (v .jobs) (s .jobs .0)) (given-kept row-number (others row-number (t .number)) (v .next) (v .jobs) (s .jobs));
+      rows = subst (λ qs. Rows qs (without-ticket row-number (t .number) (v .jobs))) (sym places) (closed-rows (v .places) after-commit (v .jobs) (t .number) (s .jobs .0) (s .rows) unconcerned (settled-back (t .number) (v .stamp + 1) written (v .places)));
+    },
+  )
     where
       found : with-ticket row-number (t .number) (v .jobs) ≡ Some row
       found = open-row v t row e
+
       places : folded (settled (v .stamp + 1)) (v .places) (entries-of (row-of v t)) ≡ after-commit
       places = rw e (settled-is (v .places) (t .number) (v .stamp + 1) (entries-of row) (its-entries v s (t .number) row found) written written-some written-all (its-drafts v s (t .number) row found) (its-keys v s (t .number) row found))
+
       unconcerned : All (Unconcerned (v .places) after-commit) (kept-by (others row-number (t .number)) (v .jobs))
       unconcerned = all-both (λ r. r .ticket ≡ t .number → ⊥) (λ r. (k : K) → Has k (keys-held (v .places) (entries-of r)) → Has k (keys-held (v .places) (entries-of row)) → ⊥) (Unconcerned (v .places) after-commit)
           (λ r ne off k h. settled-same (t .number) (v .stamp + 1) written (v .places) (r .ticket) k ne
-            (bool-false (written k) (λ w. let m = written-some k w in off k h (drafted-held v s (t .number) row found (m .0) k (m .1)))) (written-all k))
+          (bool-false (written k) (λ w. let m = written-some k w in off k h (drafted-held v s (t .number) row found (m .0) k (m .1)))) (written-all k))
           (kept-by (others row-number (t .number)) (v .jobs)) (kept-others row-number (t .number) (v .jobs)) (rows-off (v .places) (t .number) (v .jobs) row found (s .rows .apart))
 
   pub commit-goes : (r : Result ℕ Refusal) → told code r ≡ checked (commit-checks v t) (v .stamp + 1) → Goes order v own (Basic (Commit-call t)) n (answer-of (λ x. Stamp x) r) (if-granted r (committed v t) v) own

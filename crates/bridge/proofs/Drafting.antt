@@ -124,11 +124,16 @@ module _ {K R : Type 0} (t : ℕ) (k : K) (d : Option R) where
       -- in a free place: all stands as before but for this job's draft at this key
       pub fresh-same : (u : ℕ) (q : K) → (u ≡ t → q ≡ k → ⊥) → Same-at ps (turned (draft-event t k d) n ps) u q
       fresh-same u q ne m = ⊎-elim
-          (λ z. subst (λ x. (Draft-of u q (at ps x) ↔ Draft-of u q (at (turned (draft-event t k d) n ps) x)) × (Current-of q (at ps x) ↔ Current-of q (at (turned (draft-event t k d) n ps) x))) (sym z)
-            ((λ h. let z : Draft-of u q Free = subst (Draft-of u q) empty h in differ cc,
-              λ h. absurd (ne (one-job t u (at (turned (draft-event t k d) n ps) n) (draft-here .0) (h .0)) (let e : _≡_ {A = Option K} (Some q) (Some k) = sym (h .1) ∙ draft-here .1 in cc))),
-             (λ h. let z : Current-of q Free = subst (Current-of q) empty h in differ cc,
-              λ h. absurd (not-current t (at (turned (draft-event t k d) n ps) n) (draft-here .0) (h .0)))))
+          (λ z. subst (λ x. (Draft-of u q (at ps x) ↔ Draft-of u q (at (turned (draft-event t k d) n ps) x)) × (Current-of q (at ps x) ↔ Current-of q (at (turned (draft-event t k d) n ps) x))) (sym z) (
+            (
+              λ h. let z : Draft-of u q Free = subst (Draft-of u q) empty h in differ cc,
+              λ h. absurd (ne (one-job t u (at (turned (draft-event t k d) n ps) n) (draft-here .0) (h .0)) (let e : _≡_ {A = Option K} (Some q) (Some k) = sym (h .1) ∙ draft-here .1 in cc)),
+            ),
+            (
+              λ h. let z : Current-of q Free = subst (Current-of q) empty h in differ cc,
+              λ h. absurd (not-current t (at (turned (draft-event t k d) n ps) n) (draft-here .0) (h .0)),
+            ),
+          ))
           (λ ne. rw (there m ne) ((λ h. h, λ h. h), (λ h. h, λ h. h)))
           (cases-eq m n)
 
@@ -171,17 +176,17 @@ module _ {K : Type 0} (order : K → K → Ordering) (tot : Total order) (ps qs 
       let row-is = one-more ps row f e room in
       let p = pushed ps qs t k other e fe ek (entries-of row) mine (λ h. both-ways (has-key order k (keys-held ps (entries-of row))) lacks (has-true order tot k (keys-held ps (entries-of row)) h)) in
       let ticket : noted None e row .ticket ≡ row .ticket = ap (λ r. r .ticket) row-is in
-      record
-        { fits = record
-            { entries = subst (λ u. All (Entry-fits qs u) (entries-of (noted None e row))) (sym (ticket ∙ its)) (subst (All (Entry-fits qs t)) (sym entries) (p .0))
-            ; used = subst (λ (r : Row). r .used ≤ row-entries) (sym row-is) (omega (arith, leb-false row-entries (row .used) room))
-            ; long = ap (λ r. length (r .entries)) row-is ∙ (length-set (row .entries) (row .used) e ∙ f .long)
-            }
-        ; its = ticket ∙ its
-        ; holds = job-so (noted None e row) ticket (ap (keys-held qs) entries ∙ p .1)
-        ; old = λ m s. subst (Some-of (λ x. x .draft ≡ Some m)) (sym entries) (some-left (λ x. x .draft ≡ Some m) (entries-of row) (e ∷ []) s)
-        ; new = λ m h. subst (Some-of (λ x. x .draft ≡ Some m)) (sym entries) (some-right (λ x. x .draft ≡ Some m) (entries-of row) (e ∷ []) (inl h))
-        }
+      record {
+        fits = record {
+          entries = subst (λ u. All (Entry-fits qs u) (entries-of (noted None e row))) (sym (ticket ∙ its)) (subst (All (Entry-fits qs t)) (sym entries) (p .0));
+          used = subst (λ (r : Row). r .used ≤ row-entries) (sym row-is) (omega (arith, leb-false row-entries (row .used) room));
+          long = ap (λ r. length (r .entries)) row-is ∙ (length-set (row .entries) (row .used) e ∙ f .long);
+        };
+        its = ticket ∙ its;
+        holds = job-so (noted None e row) ticket (ap (keys-held qs) entries ∙ p .1);
+        old = λ m s. subst (Some-of (λ x. x .draft ≡ Some m)) (sym entries) (some-left (λ x. x .draft ≡ Some m) (entries-of row) (e ∷ []) s);
+        new = λ m h. subst (Some-of (λ x. x .draft ≡ Some m)) (sym entries) (some-right (λ x. x .draft ≡ Some m) (entries-of row) (e ∷ []) (inl h));
+      }
     where
       job-so : (r : Row) → r .ticket ≡ row .ticket → keys-held qs (entries-of r) ≡ keys-held ps (entries-of row) ++ (k ∷ []) → job-in qs r ≡ more order tot k t (job-in ps row)
       job-so r et ks = rw (et, ks, eq-eqb (row .ticket) t its, lacks)
@@ -192,17 +197,17 @@ module _ {K : Type 0} (order : K → K → Ordering) (tot : Total order) (ps qs 
   noted-set i lt held undrafted apart has =
       let entries : entries-of (noted (Some i) e row) ≡ set (entries-of row) i e = entries-set ps row f e i lt in
       let p = put-in ps qs t k other e fe ek (entries-of row) i lt held mine apart in
-      record
-        { fits = record
-            { entries = subst (λ u. All (Entry-fits qs u) (entries-of (noted (Some i) e row))) (sym its) (subst (All (Entry-fits qs t)) (sym entries) (p .0))
-            ; used = f .used
-            ; long = length-set (row .entries) i e ∙ f .long
-            }
-        ; its = its
-        ; holds = job-so (noted (Some i) e row) refl (ap (keys-held qs) entries ∙ p .1)
-        ; old = λ m s. subst (Some-of (λ x. x .draft ≡ Some m)) (sym entries) (some-set (λ x. x .draft ≡ Some m) (entries-of row) i no-entry e (λ z. let y : _≡_ {A = Option ℕ} None (Some m) = sym undrafted ∙ z in differ cc) s)
-        ; new = λ m h. subst (Some-of (λ x. x .draft ≡ Some m)) (sym entries) (some-at (λ x. x .draft ≡ Some m) (entries-of row) i e lt h)
-        }
+      record {
+        fits = record {
+          entries = subst (λ u. All (Entry-fits qs u) (entries-of (noted (Some i) e row))) (sym its) (subst (All (Entry-fits qs t)) (sym entries) (p .0));
+          used = f .used;
+          long = length-set (row .entries) i e ∙ f .long;
+        };
+        its = its;
+        holds = job-so (noted (Some i) e row) refl (ap (keys-held qs) entries ∙ p .1);
+        old = λ m s. subst (Some-of (λ x. x .draft ≡ Some m)) (sym entries) (some-set (λ x. x .draft ≡ Some m) (entries-of row) i no-entry e (λ z. let y : _≡_ {A = Option ℕ} None (Some m) = sym undrafted ∙ z in differ cc) s);
+        new = λ m h. subst (Some-of (λ x. x .draft ≡ Some m)) (sym entries) (some-at (λ x. x .draft ≡ Some m) (entries-of row) i e lt h);
+      }
     where
       job-so : (r : Row) → r .ticket ≡ row .ticket → keys-held qs (entries-of r) ≡ keys-held ps (entries-of row) → job-in qs r ≡ more order tot k t (job-in ps row)
       job-so r et ks = rw (et, ks, eq-eqb (row .ticket) t its, has)

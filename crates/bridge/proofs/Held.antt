@@ -162,6 +162,7 @@ module _ {K : Type 0} (v : View K) (s : Sound v) (t : ℕ) (row : Row) (found : 
           some : (b : Bool) (d : ℕ) → d < length own → isSome (record-at own (when b d)) ≡ b
           some true d lt = let x = nth-some own d lt in rw (x .1)
           some false d lt = refl
+
           go : (o : Option ℕ) → row-draft order (v .places) k row ≡ o → isSome (looked order t k (versions-in (v .places) own)) ≡ record-by order (v .places) k o
           go None e = rw (no-record e) current-is-found
           go (Some d) e =

@@ -69,10 +69,13 @@ module _ {K : Type 0} (order : K → K → Ordering) (tot : Total order) (k : K)
       where
         later : Has q (all-keys js) ⊎ (k ≡ q) → Has q (all-keys (j ∷ js)) ⊎ (k ≡ q)
         later = ⊎-elim (λ x. inl (some-right (λ y. y ≡ q) (j .keys) (all-keys js) x)) (λ x. inr x)
+
         left : Has q (j .keys) → Has q (all-keys (j ∷ js))
         left x = some-left (λ y. y ≡ q) (j .keys) (all-keys js) x
+
         pushed : (ks : List K) → Has q (ks ++ (k ∷ [])) → Has q ks ⊎ (k ≡ q)
         pushed ks x = ⊎-elim (λ y. inl y) (⊎-elim (λ y. inr y) (λ y. absurd y)) (some-parts (λ y. y ≡ q) ks (k ∷ []) x)
+
         go : (b : Bool) → Has q (cond b (record { ticket = j .ticket; keys = j .keys ++ (k ∷ []) }) j .keys ++ all-keys (holding order t k js)) → (Has q (all-keys (holding order t k js)) → Has q (all-keys js) ⊎ (k ≡ q)) → Has q (all-keys (j ∷ js)) ⊎ (k ≡ q)
         go true h i = ⊎-elim (λ x. ⊎-elim (λ y. inl (left y)) (λ y. inr y) (pushed (j .keys) x)) (λ x. later (i x)) (some-parts (λ y. y ≡ q) (j .keys ++ (k ∷ [])) (all-keys (holding order t k js)) h)
         go false h i = ⊎-elim (λ x. inl (left x)) (λ x. later (i x)) (some-parts (λ y. y ≡ q) (j .keys) (all-keys (holding order t k js)) h)
@@ -88,17 +91,20 @@ module _ {K : Type 0} (order : K → K → Ordering) (tot : Total order) (k : K)
         others : (j : Job K) (js : List (Job K)) → j .ticket ≡ t → All (λ y. j .ticket ≡ y → ⊥) (map (λ j. j .ticket) js) → All (λ j. j .ticket ≡ t → ⊥) js
         others j [] e a = tt
         others j (x ∷ xs) e a = (λ z. a .0 (e ∙ sym z), others j xs e (a .1))
+
         same-rest : (js : List (Job K)) → All (λ j. j .ticket ≡ t → ⊥) js → holding order t k js ≡ js
         same-rest js b = hold-same js (all-weak js b)
           where
             all-weak : (xs : List (Job K)) → All (λ j. j .ticket ≡ t → ⊥) xs → All (λ j. j .ticket ≡ t → Has k (j .keys)) xs
             all-weak [] b = tt
             all-weak (x ∷ xs) b = (λ e. absurd (b .0 e), all-weak xs (b .1))
+
         here : (j : Job K) (js : List (Job K)) (c : Bool) → has-key order k (j .keys) ≡ c → Apart (j .keys) × Apart (all-keys js) × Off (j .keys) (all-keys js) → (Has k (all-keys js) → ⊥)
             → Apart (cond (not c) (record { ticket = j .ticket; keys = j .keys ++ (k ∷ []) }) j .keys ++ all-keys js)
         here j js true ec p out = apart-join (j .keys) (all-keys js) (p .0) (p .1) (p .2)
         here j js false ec p out = apart-join (j .keys ++ (k ∷ [])) (all-keys js) (apart-push k (j .keys) (p .0) (λ h. both-ways (has-key order k (j .keys)) ec (has-true (j .keys) h))) (p .1)
             (all-push (λ x. All (λ y. x ≡ y → ⊥) (all-keys js)) (j .keys) k (p .2) (has-not k (all-keys js) out))
+
         go : (js : List (Job K)) → Apart (all-keys js) → All (λ j. (j .ticket ≡ t → ⊥) → Has k (j .keys) → ⊥) js → Apart (map (λ j. j .ticket) js) → Apart (all-keys (holding order t k js))
         go [] a b c = tt
         go (j ∷ js) a b c = pick (eqb (j .ticket) t) refl (apart-parts (j .keys) (all-keys js) a) (λ a′. go js a′ (b .1) (c .1))

@@ -66,8 +66,14 @@ module _ {K R : Type 0} (order : K → K → Ordering) (tot : Total order) (v : 
       go : (o : Option Row) → open-job v t ≡ o → met order v own (Basic (Look t k)) n ≡ first-refusal (look-checks order v n t k)
       go None e = rw (keys-of-is v t, e)
       go (Some row) e = let found = open-row v t row e in
-          rw (keys-of-is v t, e, holder-is order (v .places) k (t .number) (v .jobs), finds-is v s (t .number) row found order tot k own long, row-full-is v s (t .number) row found order tot k,
-            needs-entry (entries-of row) (entry-at order (v .places) k row) (is-row-full row) (has-current order (v .places) k))
+          rw (
+            keys-of-is v t,
+            e,
+            holder-is order (v .places) k (t .number) (v .jobs),
+            finds-is v s (t .number) row found order tot k own long,
+            row-full-is v s (t .number) row found order tot k,
+            needs-entry (entries-of row) (entry-at order (v .places) k row) (is-row-full row) (has-current order (v .places) k),
+          )
 
   module _ (one : (q : K) → One (is-current-of order q) (v .places)) (row : Row) (e : open-job v t ≡ Some row) where
     found : with-ticket row-number (t .number) (v .jobs) ≡ Some row
@@ -82,6 +88,7 @@ module _ {K R : Type 0} (order : K → K → Ordering) (tot : Total order) (v : 
       where
         has : Has k (keys-held (v .places) (entries-of row))
         has = true-has order tot k (keys-held (v .places) (entries-of row)) (has-key-is order (v .places) k (entries-of row) ∙ (sym (position-any (holds-key order (v .places) k) (entries-of row)) ∙ ap isSome eo))
+
         go : (b : Bool) → control v ≡ held-if order b (control v) t k
         go true = ap (λ js. record { store = v .store; stamp = v .stamp; next = v .next; reports = v .reports; jobs = js }) (sym (holds-already order tot v s (t .number) k row found has))
         go false = refl
@@ -101,12 +108,12 @@ module _ {K R : Type 0} (order : K → K → Ordering) (tot : Total order) (v : 
         itself u q = λ m. ((λ h. h, λ h. h), (λ h. h, λ h. h))
 
         abbrev fits : Entry-fits (v .places) (t .number) (record { draft = None; current = Some n })
-        fits = record
-          { key = k
-          ; holds = current-true order tot k (at (v .places) n) (there .1) .1
-          ; draft = subst (Names (Draft-of (t .number) k) (v .places)) undrafted (draft-names v s (t .number) row found order tot k)
-          ; current = finds-named (is-current-of order k) (Current-of k) refl (true-current order tot k) (current-true order tot k) (v .places) (Some n) (one k) there
-          }
+        fits = record {
+          key = k;
+          holds = current-true order tot k (at (v .places) n) (there .1) .1;
+          draft = subst (Names (Draft-of (t .number) k) (v .places)) undrafted (draft-names v s (t .number) row found order tot k);
+          current = finds-named (is-current-of order k) (Current-of k) refl (true-current order tot k) (current-true order tot k) (v .places) (Some n) (one k) there;
+        }
 
         abbrev row′ : Row
         row′ = noted None (record { draft = None; current = Some n }) row
@@ -116,18 +123,19 @@ module _ {K R : Type 0} (order : K → K → Ordering) (tot : Total order) (v : 
             (has-key-is order (v .places) k (entries-of row) ∙ position-none (holds-key order (v .places) k) (entries-of row) eo)
 
         newly-held : Held-so (with-row v row′)
-        newly-held =
-            (rw (finds-so, any-at (is-current-of order k) (v .places) n refl (there .1))
-                (ap (λ js. record { store = v .store; stamp = v .stamp; next = v .next; reports = v .reports; jobs = js }) (noted-jobs order tot (v .places) (v .places) (v .jobs) (t .number) k row row′ found (s .jobs .0) (s .rows) (λ u q ne. itself u q) (noted-so .its) (noted-so .fits) (noted-so .holds))),
-              refl,
-              record
-                { stamp = s .stamp
-                ; reports = s .reports
-                ; jobs = rw (replaced-is row-number (t .number) row′ (v .jobs) (noted-so .its) (s .jobs .0), numbers-over row-number (t .number) row′ (v .jobs) (noted-so .its)) (s .jobs)
-                ; rows = noted-rows order tot (v .places) (v .places) (v .jobs) (t .number) k row row′ found (s .jobs .0) (s .rows) (λ u q ne. itself u q) (noted-so .its) (noted-so .fits) (noted-so .holds)
-                    (holder-is order (v .places) k (t .number) (v .jobs) ∙ alone)
-                    (λ m u q h. ⊎-elim (λ z. inr (z, noted-so .old m (its-drafts v s (t .number) row found m q (subst (λ y. Draft-of y q (at (v .places) m)) z h)))) (λ ne. inl (h, ne)) (cases-eq u (t .number)))
-                })
+        newly-held = (
+          rw (finds-so, any-at (is-current-of order k) (v .places) n refl (there .1))
+              (ap (λ js. record { store = v .store; stamp = v .stamp; next = v .next; reports = v .reports; jobs = js }) (noted-jobs order tot (v .places) (v .places) (v .jobs) (t .number) k row row′ found (s .jobs .0) (s .rows) (λ u q ne. itself u q) (noted-so .its) (noted-so .fits) (noted-so .holds))),
+          refl,
+          record {
+            stamp = s .stamp;
+            reports = s .reports;
+            jobs = rw (replaced-is row-number (t .number) row′ (v .jobs) (noted-so .its) (s .jobs .0), numbers-over row-number (t .number) row′ (v .jobs) (noted-so .its)) (s .jobs);
+            rows = noted-rows order tot (v .places) (v .places) (v .jobs) (t .number) k row row′ found (s .jobs .0) (s .rows) (λ u q ne. itself u q) (noted-so .its) (noted-so .fits) (noted-so .holds)
+                (holder-is order (v .places) k (t .number) (v .jobs) ∙ alone)
+                (λ m u q h. ⊎-elim (λ z. inr (z, noted-so .old m (its-drafts v s (t .number) row found m q (subst (λ y. Draft-of y q (at (v .places) m)) z h)))) (λ ne. inl (h, ne)) (cases-eq u (t .number)));
+          },
+        )
 
     -- whatever the look found
     held-so : (place : Option ℕ) → holder-among order (v .places) k (t .number) (v .jobs) ≡ None
@@ -138,6 +146,7 @@ module _ {K R : Type 0} (order : K → K → Ordering) (tot : Total order) (v : 
         full : (b : Bool) → (b && true) ≡ false → b ≡ false
         full true x = differ cc
         full false x = refl
+
         go : (o : Option ℕ) → entry-at order (v .places) k row ≡ o → (place : Option ℕ) → Sees order (v .places) k (row-draft order (v .places) k row) place → Held-so (held v row o place)
         go (Some i) eo place sees = already i eo
         go None eo None sees = nothing eo (subst (λ d. Sees order (v .places) k d None) (undrafted eo) sees)
@@ -151,14 +160,14 @@ module _ {K R : Type 0} (order : K → K → Ordering) (tot : Total order) (v : 
       → Outcome (look-checks order v (length handed) t k) (Looks order v w handed t k) (w ≡ v) (told code r) → Goes order v own (Basic (Look t k)) (length handed) (answer-of (λ o. Record o) r) w own
   look-goes one w handed r mine h = by-outcome order v w own own (Basic (Look t k)) (length handed) (λ o. Record o) (look-checks order v (length handed) t k) (Looks order v w handed t k) (w ≡ v) r (look-met (length handed)) h s (λ e. (e, refl))
       (λ a e x.
-        let p1 = passes (job-open v t) (shelf-fits v (length handed) ∷ not-held order v t k ∷ row-left-to-look order v t k ∷ []) e in
-        let p2 = passes (shelf-fits v (length handed)) (not-held order v t k ∷ row-left-to-look order v t k ∷ []) (p1 .1) in
-        let p3 = passes (not-held order v t k) (row-left-to-look order v t k ∷ []) (p2 .1) in
-        let p4 = passes (row-left-to-look order v t k) [] (p3 .1) in
-        let o = is-open (open-job v t) [] (rw (p1 .0) refl) in
-        granted a x (o .0) (o .1) (shelf-is (length handed) (length (v .places)) (unmet (not (eqb (length handed) (length (v .places)))) (plain 3) (p2 .0)) ∙ sym long)
-          (no-holder (holder-among order (v .places) k (t .number) (v .jobs)) (p3 .0))
-          (unmet (not (isSome (entry-at order (v .places) k (row-of v t))) && is-row-full (row-of v t) && has-current order (v .places) k) (plain 9) (p4 .0)))
+      let p1 = passes (job-open v t) (shelf-fits v (length handed) ∷ not-held order v t k ∷ row-left-to-look order v t k ∷ []) e in
+      let p2 = passes (shelf-fits v (length handed)) (not-held order v t k ∷ row-left-to-look order v t k ∷ []) (p1 .1) in
+      let p3 = passes (not-held order v t k) (row-left-to-look order v t k ∷ []) (p2 .1) in
+      let p4 = passes (row-left-to-look order v t k) [] (p3 .1) in
+      let o = is-open (open-job v t) [] (rw (p1 .0) refl) in
+      granted a x (o .0) (o .1) (shelf-is (length handed) (length (v .places)) (unmet (not (eqb (length handed) (length (v .places)))) (plain 3) (p2 .0)) ∙ sym long)
+      (no-holder (holder-among order (v .places) k (t .number) (v .jobs)) (p3 .0))
+      (unmet (not (isSome (entry-at order (v .places) k (row-of v t))) && is-row-full (row-of v t) && has-current order (v .places) k) (plain 9) (p4 .0)))
     where
       granted : (a : Option R) → Looks order v w handed t k a → (row : Row) → open-job v t ≡ Some row → length handed ≡ length own → holder-among order (v .places) k (t .number) (v .jobs) ≡ None
           → (not (isSome (entry-at order (v .places) k (row-of v t))) && is-row-full (row-of v t) && has-current order (v .places) k) ≡ false
@@ -168,9 +177,11 @@ module _ {K R : Type 0} (order : K → K → Ordering) (tot : Total order) (v : 
           let sees : Sees order (v .places) k (row-draft order (v .places) k row) (x .place) = subst (λ y. Sees order (v .places) k (row-draft order (v .places) k y) (x .place)) known (x .sees) in
           let after : w ≡ held v row (entry-at order (v .places) k row) (x .place) = subst (λ y. w ≡ held v y (entry-at order (v .places) k y) (x .place)) known (x .after) in
           let y = held-so one row e (x .place) alone (subst (λ y. (not (isSome (entry-at order (v .places) k y)) && is-row-full y && has-current order (v .places) k) ≡ false) known room) sees in
-          subst (λ z. Granted order (state v own) (exchange (Basic (Look t k)) (length handed) (Record a)) (state z own) × Sound z) (sym after)
-            (record
-              { answer = ap Record (x .answers ∙ (ap (λ xs. record-at xs (x .place)) (mine fits) ∙ sees-is v s (t .number) row (open-row v t row e) order tot k own long (one k) (x .place) sees))
-              ; control = y .0
-              ; moves = (y .1, refl)
-              }, y .2)
+          subst (λ z. Granted order (state v own) (exchange (Basic (Look t k)) (length handed) (Record a)) (state z own) × Sound z) (sym after) (
+            record {
+              answer = ap Record (x .answers ∙ (ap (λ xs. record-at xs (x .place)) (mine fits) ∙ sees-is v s (t .number) row (open-row v t row e) order tot k own long (one k) (x .place) sees));
+              control = y .0;
+              moves = (y .1, refl);
+            },
+            y .2,
+          )

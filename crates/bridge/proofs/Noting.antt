@@ -58,9 +58,10 @@ module _ {K : Type 0} (ps qs : List (Place K)) (t : ℕ) (k : K) (other : (q : K
 
   pub pushed : (es : List HeldKey) → All (Entry-fits ps t) es → (Has k (keys-held ps es) → ⊥) → All (Entry-fits qs t) (es ++ (e ∷ [])) × (keys-held qs (es ++ (e ∷ [])) ≡ keys-held ps es ++ (k ∷ []))
   pushed es fits out =
-      let i = entries-same ps qs t es fits (λ q h. other q (λ z. out (subst (λ x. Has x (keys-held ps es)) z h))) in
-      (all-push (Entry-fits qs t) es e (i .0) f,
-        joined-append (λ x. listed (key-held qs x)) es (e ∷ []) ∙ (ap (λ ks. ks ++ keys-held qs (e ∷ [])) (i .1) ∙ ap (λ ks. keys-held ps es ++ ks) (keys-cons qs e [] k held)))
+      let i = entries-same ps qs t es fits (λ q h. other q (λ z. out (subst (λ x. Has x (keys-held ps es)) z h))) in (
+        all-push (Entry-fits qs t) es e (i .0) f,
+        joined-append (λ x. listed (key-held qs x)) es (e ∷ []) ∙ (ap (λ ks. ks ++ keys-held qs (e ∷ [])) (i .1) ∙ ap (λ ks. keys-held ps es ++ ks) (keys-cons qs e [] k held)),
+      )
 
   pub put-in : (es : List HeldKey) (i : ℕ) → i < length es → key-held ps (getD es i no-entry) ≡ Some k → All (Entry-fits ps t) es → Apart (keys-held ps es) → All (Entry-fits qs t) (set es i e) × (keys-held qs (set es i e) ≡ keys-held ps es)
   put-in [] i lt h fits a = absurd (omega arith)
@@ -111,11 +112,11 @@ module _ {K : Type 0} (order : K → K → Ordering) (tot : Total order) (ps qs 
   pub noted-rows : other-holder order t k (jobs-in ps jobs) ≡ None
       → ((n u : ℕ) (q : K) → Draft-of u q (at qs n) → (Draft-of u q (at ps n) × (u ≡ t → ⊥)) ⊎ ((u ≡ t) × Some-of (λ e. e .draft ≡ Some n) (entries-of row′)))
       → Rows qs (replaced row-number row′ jobs)
-  noted-rows alone drafts = rw (replaced-is row-number t row′ jobs its apart) (record
-    { fit = done .0
-    ; apart = subst (λ js. Apart (all-keys js)) (sym (done .1)) (hold-apart order tot k t (jobs-in ps jobs) (s .apart) alone (subst Apart (sym (tickets jobs)) apart))
-    ; noted = λ n u q d. ⊎-elim
+  noted-rows alone drafts = rw (replaced-is row-number t row′ jobs its apart) (record {
+    fit = done .0;
+    apart = subst (λ js. Apart (all-keys js)) (sym (done .1)) (hold-apart order tot k t (jobs-in ps jobs) (s .apart) alone (subst Apart (sym (tickets jobs)) apart));
+    noted = λ n u q d. ⊎-elim
         (λ x. subst (Notes n) (sym (with-other-over row-number t u row′ jobs its (x .1))) (s .noted n u q (x .0)))
         (λ x. subst (λ y. Notes n (with-ticket row-number y (map (over row-number t row′) jobs))) (sym (x .0)) (subst (Notes n) (sym (with-over row-number t row row′ jobs its found)) (x .1)))
-        (drafts n u q d)
-    })
+        (drafts n u q d);
+  })

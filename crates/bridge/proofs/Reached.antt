@@ -57,12 +57,15 @@ counts {K} {R} {Y} f test value is p r = go (version-in p r) (is p r)
     some : (b : Bool) (y : Y) → isSome (when b y) ≡ b
     some true y = refl
     some false y = refl
+
     zero-plus : (b : Bool) → 0 + cond b 1 0 ≡ cond {A = ℕ} b 1 0
     zero-plus true = refl
     zero-plus false = refl
+
     none : (b : Bool) → _≡_ {A = Option Y} None (when b (value p r)) → 0 ≡ cond {A = ℕ} b 1 0
     none true e = differ cc
     none false e = refl
+
     go : (o : Option (Version K R)) → first f (listed o) ≡ when (test p) (value p r) → countBy (found f) (listed o) ≡ cond (test p) 1 0
     go None e = none (test p) e
     go (Some v) e = ap (λ b. 0 + cond b 1 0) (ap isSome (sym (first-listed f v) ∙ e) ∙ some (test p) (value p r)) ∙ zero-plus (test p)
@@ -78,10 +81,10 @@ reached {K} {R} order tot o past v own run =
     let sound = reached-sound order tot o past (state v own) run in
     let lengths = reached-lengths order tot o past (state v own) run in
     let long : length own ≡ length (v .places) = lengths .1 ∙ sym (lengths .0) in
-    record
-      { long = long
-      ; one-seen = λ st k. counted-one (is-seen-of order st k) (v .places) refl
-          (subst (λ n. n ≤ 1) (counts-is (found (seen-in order st k)) (is-seen-of order st k) (counts (seen-in order st k) (is-seen-of order st k) (λ p r. r) (seen-is order st k)) (v .places) own long) (sound .one-seen st k))
-      ; one-current = λ k. counted-one (is-current-of order k) (v .places) refl
-          (subst (λ n. n ≤ 1) (counts-is (found (current-in order k)) (is-current-of order k) (counts (current-in order k) (is-current-of order k) (λ p r. r) (current-is order k)) (v .places) own long) (one-current order (v .stamp) k (versions-in (v .places) own) sound))
-      }
+    record {
+      long = long;
+      one-seen = λ st k. counted-one (is-seen-of order st k) (v .places) refl
+          (subst (λ n. n ≤ 1) (counts-is (found (seen-in order st k)) (is-seen-of order st k) (counts (seen-in order st k) (is-seen-of order st k) (λ p r. r) (seen-is order st k)) (v .places) own long) (sound .one-seen st k));
+      one-current = λ k. counted-one (is-current-of order k) (v .places) refl
+          (subst (λ n. n ≤ 1) (counts-is (found (current-in order k)) (is-current-of order k) (counts (current-in order k) (is-current-of order k) (λ p r. r) (current-is order k)) (v .places) own long) (one-current order (v .stamp) k (versions-in (v .places) own) sound));
+    }

@@ -54,15 +54,17 @@ module _ {K R : Type 0} (order : K → K → Ordering) (tot : Total order) (v : 
   read-goes one k handed r mine h = by-outcome order v v own own (Basic (Read t k)) (length handed) (λ o. Record o) (read-checks v (length handed) t) (Reads order v handed t k) Unit r
       (rw (stamp-of-is v t, some-mapped (λ r. r .stamp) (open-report v t))) h s (λ e. (refl, refl))
       (λ a e x.
-        let p1 = passes (report-open v t) (shelf-fits v (length handed) ∷ []) e in
-        let p2 = passes (shelf-fits v (length handed)) [] (p1 .1) in
-        let fits : length handed ≡ length own = shelf-is (length handed) (length (v .places)) (unmet (not (eqb (length handed) (length (v .places)))) (plain 3) (p2 .0)) ∙ sym long in
-        let found = found-at (seen-in order (sight v t) k) (is-seen-of order (sight v t) k) (λ p y. y) refl (seen-is order (sight v t) k) (v .places) own (x .0) long (one (sight v t) k) (x .1) in
-        (record
-          { answer = ap Record (x .2 ∙ (ap (λ xs. record-at xs (x .0)) (mine fits) ∙ (sym (found ∙ records (v .places) own (x .0)) ∙ ap (λ st. seen-at order st k (versions-in (v .places) own)) (sym sight-is))))
-          ; control = refl
-          ; moves = (refl, refl)
-          }, s))
+      let p1 = passes (report-open v t) (shelf-fits v (length handed) ∷ []) e in
+      let p2 = passes (shelf-fits v (length handed)) [] (p1 .1) in
+      let fits : length handed ≡ length own = shelf-is (length handed) (length (v .places)) (unmet (not (eqb (length handed) (length (v .places)))) (plain 3) (p2 .0)) ∙ sym long in
+      let found = found-at (seen-in order (sight v t) k) (is-seen-of order (sight v t) k) (λ p y. y) refl (seen-is order (sight v t) k) (v .places) own (x .0) long (one (sight v t) k) (x .1) in (
+        record {
+          answer = ap Record (x .2 ∙ (ap (λ xs. record-at xs (x .0)) (mine fits) ∙ (sym (found ∙ records (v .places) own (x .0)) ∙ ap (λ st. seen-at order st k (versions-in (v .places) own)) (sym sight-is))));
+          control = refl;
+          moves = (refl, refl);
+        },
+        s,
+      ))
 
 -- the key that a place shows
 module _ {K : Type 0} (order : K → K → Ordering) (st : ℕ) (from : Option K) where

@@ -45,6 +45,7 @@ module _ {X : Type 0} (number : X → ℕ) where
       none : (zs : List X) → All (λ z. number y ≡ z → ⊥) (map number zs) → number y ≡ t → All (λ z. number z ≡ t → z ≡ x) zs
       none [] b e = tt
       none (z ∷ zs) b e = (λ f. absurd (b .0 (e ∙ sym f)), none zs (b .1) e)
+
       go : (b : Bool) → eqb (number y) t ≡ b → or-else (when b y) (with-ticket number t ys) ≡ Some x → (with-ticket number t ys ≡ Some x → All (λ z. number z ≡ t → z ≡ x) ys) → All (λ z. number z ≡ t → z ≡ x) (y ∷ ys)
       go true eb e i = (λ f. cc, none ys (a .0) (eqb-true (number y) t eb))
       go false eb e i = (λ f. absurd (eqb-false (number y) t eb f), i e)

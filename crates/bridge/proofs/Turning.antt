@@ -75,19 +75,20 @@ module _ {K : Type 0} (ps : List (Place K)) (t : ℕ) (names : HeldKey → List 
       let cons : keys-held ps (e ∷ es) ≡ k ∷ keys-held ps es = keys-cons ps e es k (f .0 .holds) in
       let a′ : Apart (k ∷ keys-held ps es) = subst Apart cons a in
       let i = names-apart es (f .1) (a′ .1) in
-      let o = own e (f .0) in
-      (apart-join (names e) (joined names es) (o .0) (i .0)
-          (all-weaker (λ n. key-of (at ps n) ≡ Some k) (λ n. All (λ m. n ≡ m → ⊥) (joined names es))
+      let o = own e (f .0) in (
+        apart-join (names e) (joined names es) (o .0) (i .0)
+            (all-weaker (λ n. key-of (at ps n) ≡ Some k) (λ n. All (λ m. n ≡ m → ⊥) (joined names es))
             (λ n en. has-not n (joined names es) (λ h.
-              let x = some-all (λ m. m ≡ n) (Carried es) (joined names es) h (i .1) in
-              let same : key-of (at ps n) ≡ Some (x .2 .0) = subst (λ m. key-of (at ps m) ≡ Some (x .2 .0)) (x .1) (x .2 .2) in
-              let z : _≡_ {A = Option K} (Some k) (Some (x .2 .0)) = sym en ∙ same in
-              let ek : x .2 .0 ≡ k = cc in
-              not-has k (keys-held ps es) (a′ .0) (subst (λ q. Has q (keys-held ps es)) ek (x .2 .1))))
+            let x = some-all (λ m. m ≡ n) (Carried es) (joined names es) h (i .1) in
+            let same : key-of (at ps n) ≡ Some (x .2 .0) = subst (λ m. key-of (at ps m) ≡ Some (x .2 .0)) (x .1) (x .2 .2) in
+            let z : _≡_ {A = Option K} (Some k) (Some (x .2 .0)) = sym en ∙ same in
+            let ek : x .2 .0 ≡ k = cc in
+            not-has k (keys-held ps es) (a′ .0) (subst (λ q. Has q (keys-held ps es)) ek (x .2 .1))))
             (names e) (o .1)),
         all-append (Carried (e ∷ es)) (names e) (joined names es)
-          (all-weaker (λ n. key-of (at ps n) ≡ Some k) (Carried (e ∷ es)) (λ n en. (k, subst (Has k) (sym cons) (inl refl), en)) (names e) (o .1))
-          (all-weaker (Carried es) (Carried (e ∷ es)) (λ n x. (x .0, subst (Has (x .0)) (sym cons) (inr (x .1)), x .2)) (joined names es) (i .1)))
+            (all-weaker (λ n. key-of (at ps n) ≡ Some k) (Carried (e ∷ es)) (λ n en. (k, subst (Has k) (sym cons) (inl refl), en)) (names e) (o .1))
+            (all-weaker (Carried es) (Carried (e ∷ es)) (λ n x. (x .0, subst (Has (x .0)) (sym cons) (inr (x .1)), x .2)) (joined names es) (i .1)),
+      )
 
 -- two lists of places of one length are equal where they are equal at every number
 pub same-places : {K : Type 0} (f : Place K → Place K) (ps qs : List (Place K)) → length qs ≡ length ps → ((n : ℕ) → getD qs n free ≡ f (getD ps n free)) → qs ≡ map f ps

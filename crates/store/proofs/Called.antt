@@ -72,69 +72,69 @@ module _ {I K R : Type 0} (order : K → K → Ordering) (tot : Total order) (so
       → Leads-on order sound slots c a s s′ handed handed
   begin-report-leads r ec ea er ev ei = said (Basic BeginReport) (answer-of (λ p. Report (p .0) (p .1)) r) handed ec ea
       (leads-shelf order tot sound slots s s′ (Basic BeginReport) (answer-of (λ p. Report (p .0) (p .1)) r) handed
-        (keeps-same sound slots s s′ ei (ap (λ v. v .places) ev ∙ granted-places r (view (s .table)) (report-opened (view (s .table))) refl))
-        (λ own mine re so. subst (λ w. Goes order (view (s .table)) own (Basic BeginReport) (length handed) (answer-of (λ p. Report (p .0) (p .1)) r) w own) (sym ev) (begin-report-goes order (view (s .table)) own (length handed) so r er)))
+      (keeps-same sound slots s s′ ei (ap (λ v. v .places) ev ∙ granted-places r (view (s .table)) (report-opened (view (s .table))) refl))
+      (λ own mine re so. subst (λ w. Goes order (view (s .table)) own (Basic BeginReport) (length handed) (answer-of (λ p. Report (p .0) (p .1)) r) w own) (sym ev) (begin-report-goes order (view (s .table)) own (length handed) so r er)))
 
   pub begin-job-leads : (r : Result TicketId Refusal) → c ≡ Basic BeginJob → a ≡ answer-of (λ t. Job t) r
       → told code r ≡ checked (begin-job-checks (view (s .table))) (next-ticket (view (s .table))) → view (s′ .table) ≡ if-granted r (job-opened (view (s .table))) (view (s .table)) → s′ .index ≡ s .index
       → Leads-on order sound slots c a s s′ handed handed
   begin-job-leads r ec ea er ev ei = said (Basic BeginJob) (answer-of (λ t. Job t) r) handed ec ea
       (leads-shelf order tot sound slots s s′ (Basic BeginJob) (answer-of (λ t. Job t) r) handed
-        (keeps-same sound slots s s′ ei (ap (λ v. v .places) ev ∙ granted-places r (view (s .table)) (job-opened (view (s .table))) refl))
-        (λ own mine re so. subst (λ w. Goes order (view (s .table)) own (Basic BeginJob) (length handed) (answer-of (λ t. Job t) r) w own) (sym ev) (begin-job-goes order (view (s .table)) own (length handed) so r er)))
+      (keeps-same sound slots s s′ ei (ap (λ v. v .places) ev ∙ granted-places r (view (s .table)) (job-opened (view (s .table))) refl))
+      (λ own mine re so. subst (λ w. Goes order (view (s .table)) own (Basic BeginJob) (length handed) (answer-of (λ t. Job t) r) w own) (sym ev) (begin-job-goes order (view (s .table)) own (length handed) so r er)))
 
   pub end-leads : (t : TicketId) (r : Result Unit Refusal) → c ≡ Basic (End t) → a ≡ answer-of (λ u. Done) r
       → told code r ≡ checked (report-open (view (s .table)) t ∷ []) tt → view (s′ .table) ≡ if-granted r (report-closed (view (s .table)) t) (view (s .table)) → s′ .index ≡ s .index
       → Leads-on order sound slots c a s s′ handed handed
   end-leads t r ec ea er ev ei = said (Basic (End t)) (answer-of (λ u. Done) r) handed ec ea
       (leads-shelf order tot sound slots s s′ (Basic (End t)) (answer-of (λ u. Done) r) handed
-        (keeps-same sound slots s s′ ei (ap (λ v. v .places) ev ∙ granted-places r (view (s .table)) (report-closed (view (s .table)) t) refl))
-        (λ own mine re so. subst (λ w. Goes order (view (s .table)) own (Basic (End t)) (length handed) (answer-of (λ u. Done) r) w own) (sym ev) (end-goes order (view (s .table)) own (length handed) so t r er)))
+      (keeps-same sound slots s s′ ei (ap (λ v. v .places) ev ∙ granted-places r (view (s .table)) (report-closed (view (s .table)) t) refl))
+      (λ own mine re so. subst (λ w. Goes order (view (s .table)) own (Basic (End t)) (length handed) (answer-of (λ u. Done) r) w own) (sym ev) (end-goes order (view (s .table)) own (length handed) so t r er)))
 
   pub commit-leads : (t : TicketId) (r : Result ℕ Refusal) → c ≡ Basic (Commit t) → a ≡ answer-of (λ x. Stamp x) r
       → told code r ≡ checked (commit-checks (view (s .table)) t) (s .table .stamp + 1) → view (s′ .table) ≡ if-granted r (committed (view (s .table)) t) (view (s .table)) → Keeps sound slots s s′
       → Leads-on order sound slots c a s s′ handed handed
   commit-leads t r ec ea er ev keeps = said (Basic (Commit t)) (answer-of (λ x. Stamp x) r) handed ec ea
       (leads-shelf order tot sound slots s s′ (Basic (Commit t)) (answer-of (λ x. Stamp x) r) handed keeps
-        (λ own mine re so. subst (λ w. Goes order (view (s .table)) own (Basic (Commit t)) (length handed) (answer-of (λ x. Stamp x) r) w own) (sym ev) (commit-goes order tot (view (s .table)) own (length handed) so (re .long) t r er)))
+      (λ own mine re so. subst (λ w. Goes order (view (s .table)) own (Basic (Commit t)) (length handed) (answer-of (λ x. Stamp x) r) w own) (sym ev) (commit-goes order tot (view (s .table)) own (length handed) so (re .long) t r er)))
 
   pub abort-leads : (t : TicketId) (r : Result Unit Refusal) → c ≡ Basic (Abort t) → a ≡ answer-of (λ u. Done) r
       → told code r ≡ checked (abort-checks (view (s .table)) t) tt → view (s′ .table) ≡ if-granted r (aborted (view (s .table)) t) (view (s .table)) → Keeps sound slots s s′
       → Leads-on order sound slots c a s s′ handed handed
   abort-leads t r ec ea er ev keeps = said (Basic (Abort t)) (answer-of (λ u. Done) r) handed ec ea
       (leads-shelf order tot sound slots s s′ (Basic (Abort t)) (answer-of (λ u. Done) r) handed keeps
-        (λ own mine re so. subst (λ w. Goes order (view (s .table)) own (Basic (Abort t)) (length handed) (answer-of (λ u. Done) r) w own) (sym ev) (abort-goes order (view (s .table)) own (length handed) so t r er)))
+      (λ own mine re so. subst (λ w. Goes order (view (s .table)) own (Basic (Abort t)) (length handed) (answer-of (λ u. Done) r) w own) (sym ev) (abort-goes order (view (s .table)) own (length handed) so t r er)))
 
   pub age-leads : (limit looked gone : ℕ) → c ≡ Basic (Age limit) → a ≡ Aged looked gone → looked ≡ looked-at (Some limit) (view (s .table)) → gone ≡ freed (Some limit) (view (s .table))
       → view (s′ .table) ≡ with-places (view (s .table)) (aged (Some limit) (view (s .table))) → Keeps sound slots s s′
       → Leads-on order sound slots c a s s′ handed handed
   age-leads limit looked gone ec ea el ef ev keeps = said (Basic (Age limit)) (Aged (looked-at (Some limit) (view (s .table))) (freed (Some limit) (view (s .table)))) handed ec (ea ∙ (ap (λ x. Aged x gone) el ∙ ap (λ x. Aged (looked-at (Some limit) (view (s .table))) x) ef))
       (leads-shelf order tot sound slots s s′ (Basic (Age limit)) (Aged (looked-at (Some limit) (view (s .table))) (freed (Some limit) (view (s .table)))) handed keeps
-        (λ own mine re so. subst (λ w. Goes order (view (s .table)) own (Basic (Age limit)) (length handed) (Aged (looked-at (Some limit) (view (s .table))) (freed (Some limit) (view (s .table)))) w own) (sym ev) (age-goes order (view (s .table)) own (length handed) limit so (re .long))))
+      (λ own mine re so. subst (λ w. Goes order (view (s .table)) own (Basic (Age limit)) (length handed) (Aged (looked-at (Some limit) (view (s .table))) (freed (Some limit) (view (s .table)))) w own) (sym ev) (age-goes order (view (s .table)) own (length handed) limit so (re .long))))
 
   pub remove-leads : (t : TicketId) (k : K) (r : Result Unit Refusal) → c ≡ Basic (Remove t k) → a ≡ answer-of (λ u. Done) r
       → Outcome (remove-checks order (view (s .table)) t k) (λ u. Removes order (view (s .table)) (view (s′ .table)) t k) (Unchanged s s′) (told code r) → Keeps sound slots s s′
       → Leads-on order sound slots c a s s′ handed handed
   remove-leads t k r ec ea h keeps = said (Basic (Remove t k)) (answer-of (λ u. Done) r) handed ec ea
       (leads-shelf order tot sound slots s s′ (Basic (Remove t k)) (answer-of (λ u. Done) r) handed keeps
-        (λ own mine re so. remove-goes order tot (view (s .table)) own so (re .long) t k (re .one-current) (view (s′ .table)) r (length handed)
-          (outcome-leaves (remove-checks order (view (s .table)) t k) (λ u. Removes order (view (s .table)) (view (s′ .table)) t k) (λ u. u .1) (told code r) h)))
+      (λ own mine re so. remove-goes order tot (view (s .table)) own so (re .long) t k (re .one-current) (view (s′ .table)) r (length handed)
+      (outcome-leaves (remove-checks order (view (s .table)) t k) (λ u. Removes order (view (s .table)) (view (s′ .table)) t k) (λ u. u .1) (told code r) h)))
 
   pub put-leads : (t : TicketId) (k : K) (item : R) (left : List R) (r : Result Unit Refusal) → c ≡ Basic (Put t k item) → a ≡ answer-of (λ u. Done) r
       → Outcome (put-checks order (view (s .table)) (length handed) t k) (λ u. Puts order (view (s .table)) (view (s′ .table)) handed left t k item) (Unchanged s s′ × (left ≡ handed)) (told code r) → Keeps sound slots s s′
       → Leads-on order sound slots c a s s′ handed left
   put-leads t k item left r ec ea h keeps = said (Basic (Put t k item)) (answer-of (λ u. Done) r) left ec ea
       (leads order tot sound slots s s′ (Basic (Put t k item)) (answer-of (λ u. Done) r) handed left keeps
-        (λ own mine re so. put-goes order tot (view (s .table)) own so (re .long) t k (re .one-current) (view (s′ .table)) r handed left item mine
-          (outcome-leaves (put-checks order (view (s .table)) (length handed) t k) (λ u. Puts order (view (s .table)) (view (s′ .table)) handed left t k item) (λ u. (u .0 .1, u .1)) (told code r) h)))
+      (λ own mine re so. put-goes order tot (view (s .table)) own so (re .long) t k (re .one-current) (view (s′ .table)) r handed left item mine
+      (outcome-leaves (put-checks order (view (s .table)) (length handed) t k) (λ u. Puts order (view (s .table)) (view (s′ .table)) handed left t k item) (λ u. (u .0 .1, u .1)) (told code r) h)))
 
   pub look-leads : (t : TicketId) (k : K) (r : Result (Option R) Refusal) → c ≡ Basic (Look t k) → a ≡ answer-of (λ o. Record o) r
       → Outcome (look-checks order (view (s .table)) (length handed) t k) (Looks order (view (s .table)) (view (s′ .table)) handed t k) (view (s′ .table) ≡ view (s .table)) (told code r) → s′ .index ≡ s .index
       → Leads-on order sound slots c a s s′ handed handed
   look-leads t k r ec ea h ei = said (Basic (Look t k)) (answer-of (λ o. Record o) r) handed ec ea
       (leads-shelf order tot sound slots s s′ (Basic (Look t k)) (answer-of (λ o. Record o) r) handed
-        (keeps-same sound slots s s′ ei (looked-places order (view (s .table)) (view (s′ .table)) handed t k (told code r) h))
-        (λ own mine re so. look-goes order tot (view (s .table)) own so (re .long) t k (re .one-current) (view (s′ .table)) handed r mine h))
+      (keeps-same sound slots s s′ ei (looked-places order (view (s .table)) (view (s′ .table)) handed t k (told code r) h))
+      (λ own mine re so. look-goes order tot (view (s .table)) own so (re .long) t k (re .one-current) (view (s′ .table)) handed r mine h))
 
 -- a read, which changes nothing
 module _ {I K R : Type 0} (order : K → K → Ordering) (tot : Total order) (sound : I → Type 0) (slots : I → List (Option K)) (s : Store I K) (c : Call K R) (a : Answer K R) (handed : List R) where
@@ -143,7 +143,7 @@ module _ {I K R : Type 0} (order : K → K → Ordering) (tot : Total order) (so
       → Leads-on order sound slots c a s s handed handed
   read-leads t k r ec ea h = said order tot sound slots s s c a handed (Basic (Read t k)) (answer-of (λ o. Record o) r) handed ec ea
       (leads-shelf order tot sound slots s s (Basic (Read t k)) (answer-of (λ o. Record o) r) handed (λ i. i)
-        (λ own mine re so. read-goes order tot (view (s .table)) own so (re .long) t (re .one-seen) k handed r mine h))
+      (λ own mine re so. read-goes order tot (view (s .table)) own so (re .long) t (re .one-seen) k handed r mine h))
 
   -- a walk, which changes nothing either, and goes by the index
   pub walk-leads : (t : TicketId) (from : Option K) (r : Result (Option K) Refusal) → c ≡ Walk t from → a ≡ answer-of (λ o. Next o) r
@@ -151,7 +151,7 @@ module _ {I K R : Type 0} (order : K → K → Ordering) (tot : Total order) (so
       → Leads-on order sound slots c a s s handed handed
   walk-leads t from r ec ea h = said order tot sound slots s s c a handed (Walk t from) (answer-of (λ o. Next o) r) handed ec ea
       (λ o past own mine led. leads-shelf order tot sound slots s s (Walk t from) (answer-of (λ x. Next x) r) handed (λ i. i)
-        (λ own′ mine′ re so. walk-goes order tot (view (s .table)) own′ so (re .long) t from (length handed) r (h (led .index))) o past own mine led)
+      (λ own′ mine′ re so. walk-goes order tot (view (s .table)) own′ so (re .long) t from (length handed) r (h (led .index))) o past own mine led)
 
 -- a put on a shelf of another length is refused
 pub put-astray : {I K R : Type 0} (order : K → K → Ordering) (s s′ : Store I K) (handed left : List R) (t : TicketId) (k : K) (item : R) (r : Result Unit Code)

@@ -24,7 +24,9 @@ pub fn visit<I: Index, R>(store: &mut Store<I>) -> Result<u32, (Refusal, Option<
 }
 
 // Begins a job and commits it twice over: the second time it is another job, since the first ticket is gone with its commit.
-pub fn commit_twice<I: Index, R>(store: &mut Store<I>) -> Result<u32, (Refusal, Option<JobTicket>)> {
+pub fn commit_twice<I: Index, R>(
+    store: &mut Store<I>,
+) -> Result<u32, (Refusal, Option<JobTicket>)> {
     commit_once::<I, R>(store)?;
     commit_once::<I, R>(store)
 }

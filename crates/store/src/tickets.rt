@@ -50,7 +50,9 @@ impl ReportTicket {
         }
     }
 
-    pub(crate) fn issue(begun: Result<(TicketId, u32), Refusal>) -> Result<(ReportTicket, u32), Refusal>
+    pub(crate) fn issue(
+        begun: Result<(TicketId, u32), Refusal>,
+    ) -> Result<(ReportTicket, u32), Refusal>
         ensures answer { λ r. ⌜ r ≡ report-issued begun ⌝ }
     {
         match begun {

@@ -20,7 +20,10 @@ pub fn begin_report<I: Index, R>(store: &mut Store<I>) -> Result<(ReportTicket, 
 }
 
 // Ends the report; refused, it gives the ticket back.
-pub fn end_report<I: Index, R>(store: &mut Store<I>, ticket: ReportTicket) -> Result<(), (Refusal, ReportTicket)>
+pub fn end_report<I: Index, R>(
+    store: &mut Store<I>,
+    ticket: ReportTicket,
+) -> Result<(), (Refusal, ReportTicket)>
     ensures law { λ r. ⌜ Leads-on (Key·Key .order) (I·Index .sound) (I·Index .slots) (Basic (End (id-of-report ticket))) (answer-of (λ u. Done) (but-for-ticket r)) (now (store .entry)) (now (store .exit)) (no-shelf R) (no-shelf R) ⌝ }
     ensures back { λ r. ⌜ Gives-back ticket r ⌝ }
 {
@@ -36,7 +39,10 @@ pub fn begin_job<I: Index, R>(store: &mut Store<I>) -> Result<JobTicket, Refusal
 }
 
 // Commits the job; refused, it gives the ticket back.
-pub fn commit_job<I: Index, R>(store: &mut Store<I>, ticket: JobTicket) -> Result<u32, (Refusal, JobTicket)>
+pub fn commit_job<I: Index, R>(
+    store: &mut Store<I>,
+    ticket: JobTicket,
+) -> Result<u32, (Refusal, JobTicket)>
     ensures law { λ r. ⌜ Leads-on (Key·Key .order) (I·Index .sound) (I·Index .slots) (Basic (Commit (id-of-job ticket))) (answer-of (λ s. Stamp s) (but-for-ticket r)) (now (store .entry)) (now (store .exit)) (no-shelf R) (no-shelf R) ⌝ }
     ensures back { λ r. ⌜ Gives-back ticket r ⌝ }
 {
@@ -45,7 +51,10 @@ pub fn commit_job<I: Index, R>(store: &mut Store<I>, ticket: JobTicket) -> Resul
 }
 
 // Aborts the job; refused, it gives the ticket back.
-pub fn abort_job<I: Index, R>(store: &mut Store<I>, ticket: JobTicket) -> Result<(), (Refusal, JobTicket)>
+pub fn abort_job<I: Index, R>(
+    store: &mut Store<I>,
+    ticket: JobTicket,
+) -> Result<(), (Refusal, JobTicket)>
     ensures law { λ r. ⌜ Leads-on (Key·Key .order) (I·Index .sound) (I·Index .slots) (Basic (Abort (id-of-job ticket))) (answer-of (λ u. Done) (but-for-ticket r)) (now (store .entry)) (now (store .exit)) (no-shelf R) (no-shelf R) ⌝ }
     ensures back { λ r. ⌜ Gives-back ticket r ⌝ }
 {

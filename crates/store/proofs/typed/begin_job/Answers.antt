@@ -8,7 +8,7 @@ use Rattle.store.proofs.Issued.{job-answer}
 use Rattle.store.proofs.typed.«begin_job».Needs as need
 
 pub returns : need.returns
-returns g c = record
-  { law = begin-job-leads (g .Key·Key .order) (g .Key·Key·met .total) (g .I·Index .sound) (g .I·Index .slots) (c .args .store .now) (c .begin-job .last .self) (Basic BeginJob) _ (no-shelf (g .R .Denot)) (c .begin-job .result) refl
-      (job-answer (c .begin-job .result) (c .issue .result) (c .issue .ensures .answer)) (c .begin-job .ensures .answer) (c .begin-job .ensures .after) (c .begin-job .ensures .index)
-  }
+returns g c = record {
+  law = begin-job-leads (g .Key·Key .order) (g .Key·Key·met .total) (g .I·Index .sound) (g .I·Index .slots) (c .args .store .now) (c .begin-job .last .self) (Basic BeginJob) _ (no-shelf (g .R .Denot)) (c .begin-job .result) refl
+      (job-answer (c .begin-job .result) (c .issue .result) (c .issue .ensures .answer)) (c .begin-job .ensures .answer) (c .begin-job .ensures .after) (c .begin-job .ensures .index);
+}

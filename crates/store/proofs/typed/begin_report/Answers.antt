@@ -8,7 +8,7 @@ use Rattle.store.proofs.Issued.{report-answer}
 use Rattle.store.proofs.typed.«begin_report».Needs as need
 
 pub returns : need.returns
-returns g c = record
-  { law = begin-report-leads (g .Key·Key .order) (g .Key·Key·met .total) (g .I·Index .sound) (g .I·Index .slots) (c .args .store .now) (c .begin-report .last .self) (Basic BeginReport) _ (no-shelf (g .R .Denot)) (c .begin-report .result) refl
-      (report-answer (c .begin-report .result) (c .issue .result) (c .issue .ensures .answer)) (c .begin-report .ensures .answer) (c .begin-report .ensures .after) (c .begin-report .ensures .index)
-  }
+returns g c = record {
+  law = begin-report-leads (g .Key·Key .order) (g .Key·Key·met .total) (g .I·Index .sound) (g .I·Index .slots) (c .args .store .now) (c .begin-report .last .self) (Basic BeginReport) _ (no-shelf (g .R .Denot)) (c .begin-report .result) refl
+      (report-answer (c .begin-report .result) (c .issue .result) (c .issue .ensures .answer)) (c .begin-report .ensures .answer) (c .begin-report .ensures .after) (c .begin-report .ensures .index);
+}

@@ -10,8 +10,8 @@ use Rattle.store.proofs.Issued.{same-answer, given-back}
 use Rattle.store.proofs.typed.«end_report».Needs as need
 
 pub returns : need.returns
-returns g c = record
-  { law = end-leads (g .Key·Key .order) (g .Key·Key·met .total) (g .I·Index .sound) (g .I·Index .slots) (c .args .store .now) (c .end-ended .last .self) (Basic (End (id-of-report (c .args .ticket)))) _ (no-shelf (g .R .Denot)) (c .id .result) (c .end-ended .result) (ap (λ t. Basic (End t)) (sym (c .id .ensures .answer)))
-      (same-answer (λ u. Done) (c .args .ticket) (c .end-ended .result) (c .settle .result) (c .settle .ensures .answer)) (c .end-ended .ensures .answer) (c .end-ended .ensures .after) (c .end-ended .ensures .index)
-  ; back = given-back (c .args .ticket) (c .end-ended .result) (c .settle .result) (c .settle .ensures .answer)
-  }
+returns g c = record {
+  law = end-leads (g .Key·Key .order) (g .Key·Key·met .total) (g .I·Index .sound) (g .I·Index .slots) (c .args .store .now) (c .end-ended .last .self) (Basic (End (id-of-report (c .args .ticket)))) _ (no-shelf (g .R .Denot)) (c .id .result) (c .end-ended .result) (ap (λ t. Basic (End t)) (sym (c .id .ensures .answer)))
+      (same-answer (λ u. Done) (c .args .ticket) (c .end-ended .result) (c .settle .result) (c .settle .ensures .answer)) (c .end-ended .ensures .answer) (c .end-ended .ensures .after) (c .end-ended .ensures .index);
+  back = given-back (c .args .ticket) (c .end-ended .result) (c .settle .result) (c .settle .ensures .answer);
+}
