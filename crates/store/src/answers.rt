@@ -1,6 +1,6 @@
 // The answers of the calls, from the results of the store's methods.
 ghost use Rattle.bridge.specs.Answers.{answer-of};
-ghost use Rattle.ledger.specs.declared.answer.Answer.the-variants.{Done, Job, Record, Report, Stamp};
+ghost use Rattle.ledger.specs.declared.answer.Answer.the-variants.{Done, Job, Next, Record, Report, Stamp};
 ghost use mathlib.Core.Path.{_≡_};
 use ledger::Answer;
 use ledger::Refusal;
@@ -32,6 +32,16 @@ pub fn found<K, R>(result: Result<Option<R>, Refusal>) -> Answer<K, R>
 {
     match result {
         Ok(item) => Answer::Record(item),
+        Err(why) => Answer::Refused(why),
+    }
+}
+
+// A walk came to a key, or to none.
+pub fn next_key<K, R>(result: Result<Option<K>, Refusal>) -> Answer<K, R>
+    ensures answer { λ a. ⌜ a ≡ answer-of (λ o. Next o) result ⌝ }
+{
+    match result {
+        Ok(key) => Answer::Next(key),
         Err(why) => Answer::Refused(why),
     }
 }

@@ -4,6 +4,7 @@ mod answers;
 mod asking;
 mod example;
 mod opening;
+mod ordered;
 mod tickets;
 mod typed;
 
@@ -11,6 +12,7 @@ pub use asking::ask;
 pub use example::commit_twice;
 pub use example::visit;
 pub use opening::open;
+pub use ordered::ask_ordered;
 pub use tickets::JobTicket;
 pub use tickets::ReportTicket;
 pub use typed::abort_job;
