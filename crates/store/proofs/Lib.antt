@@ -3,3 +3,4 @@ pub mod Called
 pub mod Starting
 pub mod Issued
 pub mod Refused
+pub mod Listing

@@ -5,6 +5,7 @@ mod asking;
 mod example;
 mod opening;
 mod ordered;
+mod running;
 mod tickets;
 mod typed;
 
@@ -13,6 +14,7 @@ pub use example::commit_twice;
 pub use example::visit;
 pub use opening::open;
 pub use ordered::ask_ordered;
+pub use running::run_calls;
 pub use tickets::JobTicket;
 pub use tickets::ReportTicket;
 pub use typed::abort_job;
