@@ -1,4 +1,4 @@
--- Worked examples of the definitions, as one statement.
+-- Worked examples of the definitions, as one statement: spans, ageing, drafts of one job, and whole sessions.
 use mathlib.Core.Bool.{true, false}
 use mathlib.Core.Path.{_≡_}
 use Prim.Native.Nat.{ℕ}
@@ -19,6 +19,7 @@ use Rattle.ledger.specs.Calls.{Exchange}
 use Rattle.ledger.specs.Ledger.{ledger}
 use Rattle.ledger.specs.Steps.{place-aged}
 use Rattle.ledger.specs.Laws.{left}
+use Rattle.ledger.specs.Sessions.{Sessions}
 
 module _ (K R : Type 0) (order : K → K → Ordering) where
   -- a granted remove, put and commit of one job, the newest first
@@ -40,3 +41,5 @@ module _ (K R : Type 0) (order : K → K → Ordering) where
     pub leaves-record : (job : TicketId) (k : K) (r : R) (stamp : ℕ) (past : List (Exchange K R)) → left order k (remove-then-put job k r stamp past) ≡ Some r
     pub lists-record : (job : TicketId) (k : K) (r : R) (stamp first-stamp : ℕ) → current-at order k (ledger order first-stamp (remove-then-put job k r stamp []) .versions) ≡ Some r
     pub keeps-place : (k : K) (job stamp : ℕ) → after (after (after free (event.Remove k job)) (event.Put k job)) (event.Commit stamp) ≡ record { state = Current k stamp }
+    -- sessions, call by call
+    pub sessions : Sessions
