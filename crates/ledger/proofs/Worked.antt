@@ -1,5 +1,5 @@
 -- The worked examples: most by computation; that a job's own draft is found at its key needs that a key is the same as itself.
-use mathlib.Core.Path.{_≡_, refl, ap, _∙_}
+use mathlib.Core.Path.{_≡_, refl, ap}
 use mathlib.Core.Bool.{true}
 use Prim.Native.Nat.{ℕ}
 use lib.Dec.{eqb}

@@ -10,8 +10,7 @@ use Rattle.ledger.specs.declared.call.TicketId.{TicketId}
 use Rattle.ledger.specs.declared.call.Call.the-variants.{Basic}
 use Rattle.ledger.specs.declared.call.BasicCall.the-variants.{Put, Remove, Commit}
 use Rattle.ledger.specs.declared.answer.Answer.the-variants.{Done, Stamp}
-use Rattle.ledger.specs.declared.place.Place.{Place}
-use Rattle.ledger.specs.declared.place.PlaceState.the-variants.{Unstamped, Current, Superseded}
+use Rattle.ledger.specs.declared.place.PlaceState.the-variants.{Current, Superseded}
 use Rattle.ledger.specs.declared.place.PlaceEvent.the-variants as event
 use Rattle.ledger.specs.Places.{after, free, spans}
 use Rattle.ledger.specs.Versions.{current-at}

@@ -123,11 +123,12 @@ from-key-to-key =
     ∷ (Walk (ticket 3) (Some 7), Next None)
     ∷ []
 
--- so many reports, or jobs, begin one after the other, from this running number on
+-- so many reports begin one after the other, from this running number on
 abbrev pub reports-begin : ℕ → ℕ → List (Call ℕ ℕ × Answer ℕ ℕ)
 reports-begin zero n = []
 reports-begin (suc count) n = (Basic BeginReport, Report (ticket n) 0) ∷ reports-begin count (suc n)
 
+-- so many jobs begin one after the other, from this running number on
 abbrev pub jobs-begin : ℕ → ℕ → List (Call ℕ ℕ × Answer ℕ ℕ)
 jobs-begin zero n = []
 jobs-begin (suc count) n = (Basic BeginJob, Job (ticket n)) ∷ jobs-begin count (suc n)
@@ -156,6 +157,7 @@ other-shelves =
     with-shelf 2 ((Basic BeginJob, Job (ticket 1)) ∷ (Basic BeginJob, Job (ticket 2)) ∷ (Basic (Put (ticket 1) 5 3), Done) ∷ [])
     ++ with-shelf 1 ((Basic (Look (ticket 2) 5), Refused WrongShelf) ∷ (Basic (Put (ticket 3) 5 4), Refused NotOpen) ∷ (Basic (Commit (ticket 1)), Stamp 1) ∷ [])
 
+-- all of them happen
 pub record Sessions : Type 0 where
   pub kept : Happens (store-of 64) (with-shelf 64 kept-for-report)
   pub second : Happens (store-of 1) (with-shelf 1 no-second-place)
