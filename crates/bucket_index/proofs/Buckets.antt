@@ -35,7 +35,7 @@ pub code-total : Total code-order
 code-total =
     record { itself = λ a. search needs; same = λ a b e. search needs; turned = λ a b e. search needs; back = λ a b e. search needs; passes = λ a b c e f. search needs }
 
--- Tests of a cell.
+-- What is looked for: a cell with the key, a cell that leads to the number.
 
 key-told : (key : CodeKey) (k : Option CodeKey) → is-key key k ≡ true → k ≡ Some key
 key-told key None e = absurd (true≢false (sym e))

@@ -39,16 +39,16 @@ ended cells link i (suc j) e h =
 
 -- The walk of seek.
 
--- it has come to this link after so many steps, past cells that do not pass the test
-pub record Passed (test : Cell → Bool) (cells : List Cell) (link : Option ℕ) (at : Option ℕ) (i : ℕ) : Type 0 where
+-- it has come to this link after so many steps, past cells that are not wanted
+pub record Passed (wanted : Cell → Bool) (cells : List Cell) (link : Option ℕ) (at : Option ℕ) (i : ℕ) : Type 0 where
   pub here : at ≡ along cells link i
-  pub before : None-within test cells link i
+  pub before : None-within wanted cells link i
 
-module _ (test : Cell → Bool) (cells : List Cell) (link : Option ℕ) where
-  pub passed-none : Passed test cells link link 0
+module _ (wanted : Cell → Bool) (cells : List Cell) (link : Option ℕ) where
+  pub passed-none : Passed wanted cells link link 0
   passed-none = record { here = refl; before = λ j cell h. absurd (omega arith) }
 
-  pub passed-more : (at : Option ℕ) (i : ℕ) (cell : Cell) → Passed test cells link at i → Some cell ≡ cell-at cells at → false ≡ test cell → Passed test cells link (cell .next) (i + 1)
+  pub passed-more : (at : Option ℕ) (i : ℕ) (cell : Cell) → Passed wanted cells link at i → Some cell ≡ cell-at cells at → false ≡ wanted cell → Passed wanted cells link (cell .next) (i + 1)
   passed-more at i cell p e f =
       rw add-one
       (record {
@@ -59,11 +59,11 @@ module _ (test : Cell → Bool) (cells : List Cell) (link : Option ℕ) where
             (λ (l : i ≤ j).
             let k : i ≡ j = omega arith in
             let same : Some cell ≡ Some other = e ∙ ap (cell-at cells) (p .here) ∙ ap (λ n. cell-at cells (along cells link n)) k ∙ q in
-            let one : cell ≡ other = cc in subst (λ x. test x ≡ false) one (sym f))
+            let one : cell ≡ other = cc in subst (λ x. wanted x ≡ false) one (sym f))
             (cases-lt j i);
       })
 
-  pub passed-end : (at : Option ℕ) (i : ℕ) (r : Option ℕ) → Passed test cells link at i → None ≡ cell-at cells at → r ≡ None → Sought test cells link r
+  pub passed-end : (at : Option ℕ) (i : ℕ) (r : Option ℕ) → Passed wanted cells link at i → None ≡ cell-at cells at → r ≡ None → Sought wanted cells link r
   passed-end at i (Some n) p e z = let o : _≡_ {A = ℕ} 0 1 = cc in absurd (omega arith)
   passed-end at i None p e z = λ j cell h q.
       ⊎-elim
@@ -72,10 +72,10 @@ module _ (test : Cell → Bool) (cells : List Cell) (link : Option ℕ) where
       let o : _≡_ {A = ℕ} 0 1 = cc in absurd (omega arith))
       (cases-lt j i)
 
-  pub passed-all : (at : Option ℕ) (i : ℕ) → Passed test cells link at i → length cells ≤ i → Sought test cells link None
+  pub passed-all : (at : Option ℕ) (i : ℕ) → Passed wanted cells link at i → length cells ≤ i → Sought wanted cells link None
   passed-all at i p h j cell l q = p .before j cell (omega arith) q
 
-  pub passed-found : (at : Option ℕ) (i : ℕ) (cell : Cell) → Passed test cells link at i → Some cell ≡ cell-at cells at → true ≡ test cell → Sought test cells link at
+  pub passed-found : (at : Option ℕ) (i : ℕ) (cell : Cell) → Passed wanted cells link at i → Some cell ≡ cell-at cells at → true ≡ wanted cell → Sought wanted cells link at
   passed-found None i cell p e t = let z : _≡_ {A = ℕ} 0 1 = cc in absurd (omega arith)
   passed-found (Some n) i cell p e t = (i, cell, sym (p .here), sym e, sym t, p .before)
 

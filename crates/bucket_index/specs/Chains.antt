@@ -33,15 +33,15 @@ abbrev pub along : List Cell → Option ℕ → ℕ → Option ℕ
 along cells link zero = link
 along cells link (suc i) = link-of (cell-at cells (along cells link i))
 
--- no cell that the link leads to within so many steps passes the test
+-- no cell that the link leads to within so many steps is wanted
 abbrev pub None-within : (Cell → Bool) → List Cell → Option ℕ → ℕ → Type 0
-None-within test cells link steps = (i : ℕ) (cell : Cell) → i < steps → cell-at cells (along cells link i) ≡ Some cell → test cell ≡ false
+None-within wanted cells link steps = (i : ℕ) (cell : Cell) → i < steps → cell-at cells (along cells link i) ≡ Some cell → wanted cell ≡ false
 
--- the number of the first cell along the chain that passes the test; or none, where no cell does within as many steps as there are cells
+-- the number of the first cell along the chain that is wanted; or none, where no cell is within as many steps as there are cells
 abbrev pub Sought : (Cell → Bool) → List Cell → Option ℕ → Option ℕ → Type 0
-Sought test cells link None = None-within test cells link (length cells)
-Sought test cells link (Some n) =
-    (i : ℕ) × (cell : Cell) × (along cells link i ≡ Some n) × (nth cells n ≡ Some cell) × (test cell ≡ true) × None-within test cells link i
+Sought wanted cells link None = None-within wanted cells link (length cells)
+Sought wanted cells link (Some n) =
+    (i : ℕ) × (cell : Cell) × (along cells link i ≡ Some n) × (nth cells n ≡ Some cell) × (wanted cell ≡ true) × None-within wanted cells link i
 
 -- the order of code keys
 abbrev pub code-order : CodeKey → CodeKey → Ordering

@@ -26,23 +26,23 @@ pub const FREE: Cell = Cell {
     next: None,
 };
 
-// A test of cells.
-pub trait Test: Copy {
-    // whether a cell passes
+// What is looked for along a chain.
+pub trait Wanted: Copy {
+    // whether the cell is such a one
     ghost verdict: { Self → Cell → Bool };
 
-    fn passes(self, cell: Cell) -> bool
+    fn picks(self, cell: Cell) -> bool
         ensures answer { λ r. ⌜ r ≡ verdict self cell ⌝ };
 }
 
-// The cell has this key.
+// A cell that has this key.
 #[derive(Clone, Copy)]
 pub struct HasKey(pub CodeKey);
 
-pub impl Test for HasKey as HasKeyTest {
-    ghost verdict = { λ t. has-key (t .0) };
+pub impl Wanted for HasKey as HasKeyWanted {
+    ghost verdict = { λ w. has-key (w .0) };
 
-    fn passes(self, cell: Cell) -> bool {
+    fn picks(self, cell: Cell) -> bool {
         match cell.key {
             None => false,
             Some(key) => matches!(self.0.compare(key), Ordering::Equal),
@@ -50,14 +50,14 @@ pub impl Test for HasKey as HasKeyTest {
     }
 }
 
-// The cell leads to this number.
+// A cell that leads to this number.
 #[derive(Clone, Copy)]
 pub struct LeadsTo(pub u16);
 
-pub impl Test for LeadsTo as LeadsToTest {
-    ghost verdict = { λ t. leads-to (t .0) };
+pub impl Wanted for LeadsTo as LeadsToWanted {
+    ghost verdict = { λ w. leads-to (w .0) };
 
-    fn passes(self, cell: Cell) -> bool {
+    fn picks(self, cell: Cell) -> bool {
         match cell.next {
             None => false,
             Some(next) => next == self.0,
@@ -77,14 +77,14 @@ fn cell_at(cells: &[Cell], link: Link) -> Option<Cell>
     }
 }
 
-// The number of the first cell that passes, along the chain from the link.
-pub fn seek<T: Test>(cells: &[Cell], link: Link, test: T) -> Link
-    ensures answer { λ r. ⌜ Sought (T·Test .verdict test) (now (cells .entry)) link r ⌝ }
+// The number of the first wanted cell along the chain from the link, or none.
+pub fn seek<W: Wanted>(cells: &[Cell], link: Link, wanted: W) -> Link
+    ensures answer { λ r. ⌜ Sought (W·Wanted .verdict wanted) (now (cells .entry)) link r ⌝ }
 {
     let mut at = link;
     for _step in 0..cells.len() {
         let cell = cell_at(cells, at)?;
-        if test.passes(cell) {
+        if wanted.picks(cell) {
             return at;
         }
         at = cell.next;

@@ -1,1 +1,11 @@
+pub mod Calls
+pub mod Control
+pub mod Examples
+pub mod Laws
+pub mod Ledger
+pub mod Limits
+pub mod Places
 pub mod Refusals
+pub mod Steps
+pub mod Versions
+pub mod Words

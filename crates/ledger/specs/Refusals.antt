@@ -1,5 +1,6 @@
 -- The refusals of a store's calls as they are told: each with its number and its values.
 use mathlib.Core.List.{[], _∷_}
+use mathlib.Core.Path.{_≡_}
 use Rattle.keys.specs.Refusals.{Code, plain}
 use Rattle.ledger.specs.declared.answer.Refusal.{Refusal}
 use Rattle.ledger.specs.declared.answer.Refusal.the-variants.{WrongShelf, NotOpen, TooManyOpen, OutOfTickets, Held, NothingThere, RowFull, StoreFull, OutOfStamps}
@@ -15,3 +16,7 @@ code NothingThere = plain 8
 code RowFull = plain 9
 code StoreFull = plain 10
 code OutOfStamps = plain 11
+
+-- no two refusals are told alike
+abbrev pub Codes-differ : Type 0
+Codes-differ = (why why′ : Refusal) → code why ≡ code why′ → why ≡ why′

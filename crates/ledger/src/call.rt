@@ -1,4 +1,6 @@
 // What can be asked of a store.
+// A store over any index serves the basic calls. Walk stands beside them, since it alone needs an ordered index:
+// a store over an ordered index serves every `Call`, and one over any other index cannot be handed a walk.
 
 // A ticket: the number of the store that gave it out, and its running number there.
 #[derive(Clone, Copy)]
@@ -9,10 +11,16 @@ pub struct TicketId {
 
 #[derive(Clone, Copy)]
 pub enum Call<K, R> {
+    // the least key, beyond the given one if there is one, at which the report sees a record
+    Walk { report: TicketId, after: Option<K> },
+    Basic(BasicCall<K, R>),
+}
+
+#[derive(Clone, Copy)]
+pub enum BasicCall<K, R> {
     BeginReport,
     BeginJob,
     Read { report: TicketId, key: K },
-    Walk { report: TicketId, after: Option<K> },
     Look { job: TicketId, key: K },
     Put { job: TicketId, key: K, item: R },
     Remove { job: TicketId, key: K },

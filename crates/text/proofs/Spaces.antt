@@ -1,4 +1,5 @@
--- Where the first space of a text stands, byte by byte.
+-- Where the first space of a text stands, byte by byte: here, further on, or nowhere.
+-- Each is a step of the loop that looks for it.
 use Prim.Native.Nat.{ℕ, suc, _+_, _<_, _≤_}
 use mathlib.Core.Path.{_≡_, ap, _∙_}
 use mathlib.Core.List.{List}

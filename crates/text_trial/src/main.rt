@@ -19,7 +19,7 @@ use text::write_code;
 use text::write_code_key;
 use text::write_vehicle_key;
 
-const CODES: [&str; 16] = [
+const CODES: &[&str] = &[
     "P0000",
     "C0000",
     "B0000",
@@ -38,7 +38,7 @@ const CODES: [&str; 16] = [
     "",
 ];
 
-const CODE_KEYS: [&str; 11] = [
+const CODE_KEYS: &[&str] = &[
     "0000:P0000",
     "FFFF:U3FFF",
     "07E8:P0301",
@@ -52,7 +52,7 @@ const CODE_KEYS: [&str; 11] = [
     "",
 ];
 
-const VEHICLE_KEYS: [&str; 13] = [
+const VEHICLE_KEYS: &[&str] = &[
     "00000000000000000",
     "ZZZZZZZZZZZZZZZZZ",
     "00000000Z0000000A",
@@ -79,7 +79,7 @@ const VEHICLE_NUMBERS: [(u64, u64); 6] = [
 
 const DEGREES: [i16; 8] = [-32_768, -41, -40, -1, 0, 215, 216, 32_767];
 
-const FAULTS: [&str; 25] = [
+const FAULTS: &[&str] = &[
     "0 0 0 0",
     "255 65535 65535 215",
     "47 3 3000 -12",
@@ -107,7 +107,7 @@ const FAULTS: [&str; 25] = [
     "",
 ];
 
-const VEHICLE_RECORDS: [&str; 9] = [
+const VEHICLE_RECORDS: &[&str] = &[
     "0 0",
     "4294967295 4294967295",
     "4294967296 0",
@@ -119,15 +119,27 @@ const VEHICLE_RECORDS: [&str; 9] = [
     "120000 7 0",
 ];
 
+// What a text is tried as.
+#[derive(Clone, Copy)]
+enum Kind {
+    Code,
+    CodeKey,
+    VehicleKey,
+    Fault,
+    Vehicle,
+}
+
+const TABLES: [(Kind, &[&str]); 5] = [
+    (Kind::Code, CODES),
+    (Kind::CodeKey, CODE_KEYS),
+    (Kind::VehicleKey, VEHICLE_KEYS),
+    (Kind::Fault, FAULTS),
+    (Kind::Vehicle, VEHICLE_RECORDS),
+];
+
 fn main(rt: LibcRuntime) -> io::Result<()> {
-    for text in CODES {
-        try_code(&rt, text)?;
-    }
-    for text in CODE_KEYS {
-        try_code_key(&rt, text)?;
-    }
-    for text in VEHICLE_KEYS {
-        try_vehicle_key(&rt, text)?;
+    for (kind, texts) in TABLES {
+        try_texts(&rt, kind, texts)?;
     }
     for (first, second) in VEHICLE_NUMBERS {
         try_vehicle_numbers(&rt, first, second)?;
@@ -135,13 +147,24 @@ fn main(rt: LibcRuntime) -> io::Result<()> {
     for degrees in DEGREES {
         try_degrees(&rt, degrees)?;
     }
-    for text in FAULTS {
-        try_fault(&rt, text)?;
-    }
-    for text in VEHICLE_RECORDS {
-        try_vehicle_record(&rt, text)?;
+    Ok(())
+}
+
+fn try_texts(rt: &impl Print, kind: Kind, texts: &[&str]) -> io::Result<()> {
+    for text in texts {
+        try_text(rt, kind, text)?;
     }
     Ok(())
+}
+
+fn try_text(rt: &impl Print, kind: Kind, text: &str) -> io::Result<()> {
+    match kind {
+        Kind::Code => try_code(rt, text),
+        Kind::CodeKey => try_code_key(rt, text),
+        Kind::VehicleKey => try_vehicle_key(rt, text),
+        Kind::Fault => try_fault(rt, text),
+        Kind::Vehicle => try_vehicle_record(rt, text),
+    }
 }
 
 fn try_code(rt: &impl Print, text: &str) -> io::Result<()> {

@@ -1,0 +1,5 @@
+pub mod CommandTexts
+pub mod Commands
+pub mod Answers
+pub mod Inputs
+pub mod Echoes
