@@ -7,7 +7,7 @@ use Rattle.keys.specs.Orders.{ordered}
 use Rattle.ledger.specs.Places.{free}
 use Rattle.ledger.specs.Calls.{Exchange}
 use Rattle.ledger.specs.Steps.{State, Numbers, first-control, Run}
-use Rattle.ledger.specs.Sessions.{Happens, Sessions, store-of, store-at-end, with-shelf, kept-for-report, no-second-place, between-reports, holds-and-tickets, from-key-to-key, as-many-as-may, row-used, no-more-numbers, other-shelves}
+use Rattle.ledger.specs.Sessions.{Happens, Sessions, store-of, store-near-end, with-shelf, kept-for-report, no-second-place, between-reports, holds-and-tickets, from-key-to-key, as-many-as-may, row-used, no-more-numbers, other-shelves}
 use Rattle.ledger.proofs.Going.{later-place, some-place, takes, moves, answers}
 
 -- a run, with the store that it reached
@@ -46,6 +46,6 @@ sessions = record {
   walks = happens (store-of 4) (with-shelf 4 from-key-to-key) refl;
   many = happens (store-of 1) (with-shelf 1 as-many-as-may) refl;
   row = happens (store-of 32) (with-shelf 32 row-used) refl;
-  numbers = happens store-at-end (with-shelf 1 no-more-numbers) refl;
+  numbers = happens store-near-end (with-shelf 1 no-more-numbers) refl;
   shelves = happens (store-of 2) other-shelves refl;
 }

@@ -11,7 +11,6 @@ use Rattle.ledger.specs.declared.call.BasicCall.the-variants.{BeginReport, Beg
 use Rattle.ledger.specs.declared.answer.Answer.{Answer}
 use Rattle.ledger.specs.declared.answer.Answer.the-variants.{Report, Job, Record, Next, Done, Stamp, Aged, Refused}
 use Rattle.ledger.specs.declared.answer.Refusal.the-variants.{WrongShelf, NotOpen, TooManyOpen, OutOfTickets, Held, NothingThere, RowFull, StoreFull, OutOfStamps}
-use Rattle.ledger.specs.Limits.{last-stamp, last-ticket}
 use Rattle.ledger.specs.Calls.{Exchange}
 use Rattle.ledger.specs.Steps.{State, Numbers, Run}
 
@@ -23,9 +22,9 @@ Happens o session = (s : State ℕ ℕ) × Run ordered o (reverse session) s
 abbrev pub store-of : ℕ → Numbers
 store-of places = record { store = 7; places = places; stamp = 0; ticket = 1 }
 
--- store 7 with one place, its first stamp and its first ticket the last that there are
-abbrev pub store-at-end : Numbers
-store-at-end = record { store = 7; places = 1; stamp = last-stamp; ticket = last-ticket }
+-- store 7 with one place, its first stamp and its first ticket each one before the last
+abbrev pub store-near-end : Numbers
+store-near-end = record { store = 7; places = 1; stamp = 3999999999; ticket = 3999999999 }
 
 -- a ticket of store 7
 abbrev pub ticket : ℕ → TicketId
@@ -47,9 +46,11 @@ kept-for-report =
     ∷ (Basic (Commit (ticket 3)), Stamp 2)
     ∷ (Basic (Read (ticket 2) 5), Record (Some 3))
     ∷ (Basic (Age 3), Aged 1 0)
+    ∷ (Basic (Read (ticket 2) 5), Record (Some 3))
     ∷ (Basic (End (ticket 2)), Done)
     ∷ (Basic (Age 2), Aged 0 0)
     ∷ (Basic (Age 3), Aged 1 1)
+    ∷ (Basic (Age 3), Aged 0 0)
     ∷ (Basic (Read (ticket 2) 5), Refused NotOpen)
     ∷ []
 
@@ -146,10 +147,16 @@ keys-put (suc count) k = (Basic (Put (ticket 1) k 0), Done) ∷ keys-put count (
 abbrev pub row-used : List (Call ℕ ℕ × Answer ℕ ℕ)
 row-used = ((Basic BeginJob, Job (ticket 1)) ∷ keys-put 32 0) ++ ((Basic (Put (ticket 1) 32 0), Refused RowFull) ∷ (Basic (Remove (ticket 1) 32), Refused NothingThere) ∷ [])
 
--- the last running number is given out, the last stamp is not passed
+-- the last running number is given out, and the last stamp, and no more
 abbrev pub no-more-numbers : List (Call ℕ ℕ × Answer ℕ ℕ)
 no-more-numbers =
-    (Basic BeginJob, Job (ticket last-ticket)) ∷ (Basic BeginReport, Refused OutOfTickets) ∷ (Basic (Commit (ticket last-ticket)), Refused OutOfStamps) ∷ []
+    (Basic BeginJob, Job (ticket 3999999999))
+    ∷ (Basic BeginJob, Job (ticket 4000000000))
+    ∷ (Basic BeginReport, Refused OutOfTickets)
+    ∷ (Basic (Commit (ticket 3999999999)), Stamp 4000000000)
+    ∷ (Basic (Commit (ticket 4000000000)), Refused OutOfStamps)
+    ∷ (Basic (Abort (ticket 4000000000)), Done)
+    ∷ []
 
 -- of two places: a shelf of another length is refused where one is received, behind the ticket and before the key
 abbrev pub other-shelves : List (Exchange ℕ ℕ)
@@ -166,5 +173,5 @@ pub record Sessions : Type 0 where
   pub walks : Happens (store-of 4) (with-shelf 4 from-key-to-key)
   pub many : Happens (store-of 1) (with-shelf 1 as-many-as-may)
   pub row : Happens (store-of 32) (with-shelf 32 row-used)
-  pub numbers : Happens store-at-end (with-shelf 1 no-more-numbers)
+  pub numbers : Happens store-near-end (with-shelf 1 no-more-numbers)
   pub shelves : Happens (store-of 2) other-shelves
