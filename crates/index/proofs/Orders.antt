@@ -1,7 +1,7 @@
 -- What is used of a total order again and again: a key is another or it is not, and less never goes both ways.
 use Prim.Native.Nat.{ℕ}
 use mathlib.Core.Logic.{_⊎_, inl, inr}
-use mathlib.Core.Path.{_≡_, refl, sym, _∙_, subst}
+use mathlib.Core.Path.{_≡_, refl, sym, subst}
 use native.Mathlib.Omega.{arith}
 use Rattle.keys.specs.Orders.{Total}
 use Rattle.std.specs.declared.cmp.Ordering.{Ordering}

@@ -1,8 +1,9 @@
 -- Why inserting and removing do what they should. Both change one part of a fork and relink the fork's node to it
 -- (`part-becomes`): the key belongs on the side of that part, so the fork stays in order; the node of the fork stands in
 -- neither part, and no place stands in both, since a place has one key and a key belongs on one side. So the other part
--- lies as it did. Removing the key of a fork brings up the least node of the right part (`join-becomes`).
-use Prim.Native.Nat.{ℕ, suc, _-_, _<_, _≤_}
+-- lies as it did. Removing the key of a fork brings up the least node of its right part (`least-comes-up`), which is
+-- greater than all on the left and less than what is left on the right.
+use Prim.Native.Nat.{ℕ, suc, _≤_}
 use lib.ListN.{length}
 use mathlib.Core.List.{List}
 use mathlib.Core.Logic.{_⊎_, inl, inr, ⊎-elim}
@@ -20,17 +21,15 @@ use Rattle.tree_index.specs.declared.link.Link.{Link}
 use Rattle.tree_index.specs.declared.link.Links.{Links}
 use Rattle.tree_index.specs.declared.link.Side.{Side}
 use Rattle.tree_index.specs.declared.link.Side.the-variants.{Left, Right}
-use Rattle.tree_index.specs.declared.node.Found.{Found}
 use Rattle.tree_index.specs.declared.node.Node.{Node}
-use Rattle.tree_index.specs.declared.remove.Least.{Least}
+use Rattle.tree_index.specs.declared.remove.Min.{Min}
 use Rattle.tree_index.specs.Links.{child, with-child}
-use Rattle.tree_index.specs.Changes.{Becomes, Fresh, Loses-least}
+use Rattle.tree_index.specs.Changes.{Becomes, Fresh, Loses-min}
 use Rattle.tree_index.specs.Layouts.{Lies}
 use Rattle.tree_index.specs.Nodes.{keys, relinked}
 use Rattle.tree_index.specs.Trees.{In, On, Ordered, Tree, fork, height, leaf}
 use Rattle.std.specs.Finite.{nth}
 use Rattle.std.specs.declared.cmp.Ordering.{Ordering}
-use Rattle.std.specs.declared.cmp.Ordering.the-variants.{Less}
 use Rattle.std.specs.declared.option.Option.{Option}
 use Rattle.std.specs.declared.option.Option.the-variants.{Some, None}
 
@@ -107,8 +106,8 @@ module _ {K : Type 0} (order : K → K → Ordering) (total : Total order) where
         there n k s i = ⊎-elim (λ e. subst (λ (x : Side). In (parts x) n k) e i) (λ ne. absurd (subst (λ (u : Tree K). In u n k) (empty s ne) i)) (same-side s side)
 
     -- the least node of the right part comes up in the place of the fork's node
-    pub least-comes-up : (mid after : List (Node K)) (least : Least) → after ≡ relinked mid (least .link .place) (with-child links Right (least .rest)) →
-        Loses-least order before mid (Some least) (parts Right) → Becomes order before after (fork parts place key) (least .link) key None
+    pub least-comes-up : (mid after : List (Node K)) (least : Min) → after ≡ relinked mid (least .link .place) (with-child links Right (least .rest)) →
+        Loses-min order before mid (Some least) (parts Right) → Becomes order before after (fork parts place key) (least .link) key None
     least-comes-up mid after least is takes =
         subst (λ (nodes : List (Node K)). Becomes order before nodes (fork parts place key) (least .link) key None) (sym is)
         (record {
@@ -244,8 +243,8 @@ module _ {K : Type 0} (order : K → K → Ordering) (total : Total order) where
               (λ n k i. relinked-other mid place n _ (λ e. own-place s k (subst (λ (m : ℕ). In (parts s) m k) e i)) ∙ b .outside n (λ j w. ne (one-part s side n k j i w)))
 
       -- the least node of the fork is that of its left part
-      pub least-further : (mid after : List (Node K)) (at : Link) (least : Least) → at .place ≡ place → after ≡ relinked mid place (with-child links Left (least .rest)) →
-          Loses-least order before mid (Some least) (parts Left) → Loses-least order before after (Some (record { link = least .link; rest = at })) (fork parts place key)
+      pub least-further : (mid after : List (Node K)) (at : Link) (least : Min) → at .place ≡ place → after ≡ relinked mid place (with-child links Left (least .rest)) →
+          Loses-min order before mid (Some least) (parts Left) → Loses-min order before after (Some (record { link = least .link; rest = at })) (fork parts place key)
       least-further mid after at least leads is takes = (
         takes .0,
         inr (Left, takes .1),
@@ -261,7 +260,7 @@ module _ {K : Type 0} (order : K → K → Ordering) (total : Total order) where
           lowest n k Right i ne = total .passes (takes .0) key k lower (o Right .0 n k i)
 
     -- where the left part is empty, the least node of the fork is its own
-    pub least-here : (at : Link) → at .place ≡ place → parts Left ≡ leaf → Loses-least order before before (Some (record { link = at; rest = links .right })) (fork parts place key)
+    pub least-here : (at : Link) → at .place ≡ place → parts Left ≡ leaf → Loses-min order before before (Some (record { link = at; rest = links .right })) (fork parts place key)
     least-here at leads empty = (
       key,
       inl (sym leads, refl),

@@ -2,7 +2,7 @@
 -- A tree in order is no higher than there are keys: the root's place holds a key that no part has, so each part lies in
 -- slots with one key fewer. What a link leads to tells which trees can lie there: none but the empty one where it leads to
 -- no node with a key, and forks with the node's number and key where it leads to a node.
-use Prim.Native.Nat.{ℕ, suc, max, _<_, _≤_}
+use Prim.Native.Nat.{ℕ, suc, _<_, _≤_}
 use lib.ListN.{length, set}
 use mathlib.Core.List.{List}
 use mathlib.Core.Logic.{inl, inr}
@@ -24,7 +24,7 @@ use Rattle.tree_index.specs.declared.link.Side.{Side}
 use Rattle.tree_index.specs.declared.link.Side.the-variants.{Left, Right}
 use Rattle.tree_index.specs.declared.node.Found.{Found}
 use Rattle.tree_index.specs.declared.node.Node.{Node}
-use Rattle.tree_index.specs.Layouts.{Each-tree-at, Fits, Lies}
+use Rattle.tree_index.specs.Layouts.{Each-tree-at, Lies}
 use Rattle.tree_index.specs.Links.{child}
 use Rattle.tree_index.specs.Nodes.{Leads, keys}
 use Rattle.tree_index.specs.Trees.{In, Ordered, Tree, fork, height, leaf}

@@ -14,7 +14,6 @@ use Rattle.tree_index.specs.Links.{side-of, child, with-child}
 use Rattle.tree_index.specs.Trees.{On}
 use Rattle.std.specs.declared.cmp.Ordering.{Ordering}
 use Rattle.std.specs.declared.cmp.Ordering.the-variants.{Less, Equal, Greater}
-use Rattle.std.specs.declared.option.Option.{Option}
 use Rattle.std.specs.declared.option.Option.the-variants.{Some, None}
 
 -- the parts with another one on a side

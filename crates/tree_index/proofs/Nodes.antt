@@ -9,10 +9,10 @@ use Rattle.index.proofs.Nth.{nth-map}
 use Rattle.std.proofs.shelf.Lists.{getD-take, length-map, length-take, map-set, take-all}
 use Rattle.std.proofs.shelf.Maps.{nth-getD, nth-past}
 use Rattle.std.specs.Finite.{nth}
-use Rattle.std.specs.declared.option.Option.{Option}
 use Rattle.std.specs.declared.option.Option.the-variants.{Some, None}
 use Rattle.tree_index.specs.declared.link.Links.{Links}
 use Rattle.tree_index.specs.declared.node.Node.{Node}
+use Rattle.tree_index.specs.Links.{max-keys}
 use Rattle.tree_index.specs.Nodes.{keys, relinked, slots-in}
 
 pub relinked-is-set : {K : Type 0} (nodes : List (Node K)) (n : ℕ) (links : Links) (d : Node K) → set nodes n (record { key = getD nodes n d .key; links = links }) ≡ relinked nodes n links
@@ -71,18 +71,18 @@ all-alike (y ∷ ys) x h =
     let head : y ≡ x = cc in
     let tail : ys ≡ replicate (length ys) x = all-alike ys x (λ n l. h (suc n) (omega arith)) in cc
 
-pub slots-whole : {K : Type 0} (nodes : List (Node K)) → length nodes ≤ 512 → slots-in nodes ≡ keys nodes
-slots-whole nodes room = ap keys (take-all 512 nodes room)
+pub slots-whole : {K : Type 0} (nodes : List (Node K)) → length nodes ≤ max-keys → slots-in nodes ≡ keys nodes
+slots-whole nodes room = ap keys (take-all max-keys nodes room)
 
-pub length-slots : {K : Type 0} (nodes : List (Node K)) → length (slots-in nodes) ≡ min 512 (length nodes)
-length-slots nodes = length-keys (take 512 nodes) ∙ length-take 512 nodes
+pub length-slots : {K : Type 0} (nodes : List (Node K)) → length (slots-in nodes) ≡ min max-keys (length nodes)
+length-slots nodes = length-keys (take max-keys nodes) ∙ length-take max-keys nodes
 
 -- the slot of a place that is used, and of one that is not
-pub slot-there : {K : Type 0} (nodes : List (Node K)) (place : ℕ) (d : Node K) → place < min (length nodes) 512 → Some (getD nodes place d .key) ≡ nth (slots-in nodes) place
+pub slot-there : {K : Type 0} (nodes : List (Node K)) (place : ℕ) (d : Node K) → place < min (length nodes) max-keys → Some (getD nodes place d .key) ≡ nth (slots-in nodes) place
 slot-there {K} nodes place d within =
-    let used : length (take 512 nodes) ≡ min 512 (length nodes) = length-take 512 nodes in
-    let read : getD (take 512 nodes) place d ≡ getD nodes place d = getD-take 512 nodes place d (omega arith) in
-    sym (nth-map (λ (node : Node K). node .key) (take 512 nodes) place _ (nth-getD (take 512 nodes) place d (omega arith)) ∙ ap (λ (node : Node K). Some (node .key)) read)
+    let used : length (take max-keys nodes) ≡ min max-keys (length nodes) = length-take max-keys nodes in
+    let read : getD (take max-keys nodes) place d ≡ getD nodes place d = getD-take max-keys nodes place d (omega arith) in
+    sym (nth-map (λ (node : Node K). node .key) (take max-keys nodes) place _ (nth-getD (take max-keys nodes) place d (omega arith)) ∙ ap (λ (node : Node K). Some (node .key)) read)
 
-pub slot-past : {K : Type 0} (nodes : List (Node K)) (place : ℕ) → min (length nodes) 512 ≤ place → None ≡ nth (slots-in nodes) place
-slot-past nodes place past = let long : length (slots-in nodes) ≡ min 512 (length nodes) = length-slots nodes in sym (nth-past (slots-in nodes) place (omega arith))
+pub slot-past : {K : Type 0} (nodes : List (Node K)) (place : ℕ) → min (length nodes) max-keys ≤ place → None ≡ nth (slots-in nodes) place
+slot-past nodes place past = let long : length (slots-in nodes) ≡ min max-keys (length nodes) = length-slots nodes in sym (nth-past (slots-in nodes) place (omega arith))

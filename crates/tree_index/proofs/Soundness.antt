@@ -32,14 +32,14 @@ use Rattle.tree_index.specs.declared.node.Node.{Node}
 use Rattle.tree_index.specs.declared.root.Root.{Root}
 use Rattle.tree_index.specs.Changes.{Becomes, Fresh, Inserts, Removes}
 use Rattle.tree_index.specs.Layouts.{Addable, Discardable, Fits, Sound}
-use Rattle.tree_index.specs.Links.{child, link-to, nowhere}
+use Rattle.tree_index.specs.Links.{child, link-to, max-keys, nowhere}
 use Rattle.tree_index.specs.Nodes.{childless, keys, slots-in}
 use Rattle.tree_index.specs.Trees.{In, height, leaf}
 
 module _ {K : Type 0} (order : K → K → Ordering) (total : Total order) where
   -- nodes without a key
-  module _ (nodes : List (Node K)) (n : ℕ) (is : nodes ≡ replicate n (childless None)) (few : n ≤ 512) where
-    empty-room : length nodes ≤ 512
+  module _ (nodes : List (Node K)) (n : ℕ) (is : nodes ≡ replicate n (childless None)) (few : n ≤ max-keys) where
+    empty-room : length nodes ≤ max-keys
     empty-room = let long : length nodes ≡ n = ap length is ∙ length-replicate n (childless None) in omega arith
 
     pub empty-slots : slots-in nodes ≡ empty n
@@ -49,7 +49,7 @@ module _ {K : Type 0} (order : K → K → Ordering) (total : Total order) where
     empty-sound =
         record {
           tree = leaf;
-          lies = let room : length nodes ≤ 512 = empty-room in omega arith;
+          lies = let room : length nodes ≤ max-keys = empty-room in omega arith;
           ordered = tt;
           all = λ m key h. empty-new n key m (subst (λ (slots : List (Option K)). Maps slots m key) empty-slots h);
           counted = sym (ap count-of empty-slots ∙ count-empty K n);
@@ -88,7 +88,7 @@ module _ {K : Type 0} (order : K → K → Ordering) (total : Total order) where
   -- a key is added: its node is put, and then linked into the tree
   module _ (before mid after : List (Node K)) (root next : Root) (new link : Link) (key : K) (number : ℕ) (a : Addable order before root key number)
       (put : mid ≡ set before number (childless (Some key))) (is-new : new ≡ link-to number) (inserts : Inserts order mid after (root .link) key new (length before) link)
-      (is-next : next ≡ record { link = link; count = min (root .count + 1) 512 }) where
+      (is-next : next ≡ record { link = link; count = min (root .count + 1) max-keys }) where
     s : Sound order before root
     s = a .sound
 
@@ -97,8 +97,8 @@ module _ {K : Type 0} (order : K → K → Ordering) (total : Total order) where
 
     new-place : new .place ≡ number
     new-place =
-        let room : length before ≤ 512 = s .room in
-        ap (λ (l : Link). l .place) is-new ∙ ap (λ (low : Bool). cond {A = Link} low (record { place = number }) nowhere .place) (lt-ltb number 512 (omega (arith, within)))
+        let room : length before ≤ max-keys = s .room in
+        ap (λ (l : Link). l .place) is-new ∙ ap (λ (low : Bool). cond {A = Link} low (record { place = number }) nowhere .place) (lt-ltb number max-keys (omega (arith, within)))
 
     long : length mid ≡ length before
     long = ap length put ∙ length-set before number (childless (Some key))
@@ -111,8 +111,8 @@ module _ {K : Type 0} (order : K → K → Ordering) (total : Total order) where
     )
       where
         past : (side : Side) → length mid ≤ child (childless (Some key) .links) side .place
-        past Left = let room : length before ≤ 512 = s .room in omega (arith, long)
-        past Right = let room : length before ≤ 512 = s .room in omega (arith, long)
+        past Left = let room : length before ≤ max-keys = s .room in omega (arith, long)
+        past Right = let room : length before ≤ max-keys = s .room in omega (arith, long)
 
     new-key : (n : ℕ) → Maps (slots-in before) n key → ⊥
     new-key = number-new order total (slots-in before) key (sound-apart before root s) (a .new)
@@ -136,8 +136,8 @@ module _ {K : Type 0} (order : K → K → Ordering) (total : Total order) where
     b : Becomes order mid after (s .tree) link key (Some number)
     b = subst (λ (n : ℕ). Becomes order mid after (s .tree) link key (Some n)) new-place (inserts fresh (s .tree) fits (λ n i. new-key n (tree-maps before root s n key i)))
 
-    room-after : length after ≤ 512
-    room-after = let room : length before ≤ 512 = s .room in let same : length after ≡ length mid = same-length mid after (b .same-keys) in omega (arith, long)
+    room-after : length after ≤ max-keys
+    room-after = let room : length before ≤ max-keys = s .room in let same : length after ≡ length mid = same-length mid after (b .same-keys) in omega (arith, long)
 
     pub added-slots : slots-in after ≡ set (slots-in before) number (Some key)
     added-slots =
@@ -147,7 +147,7 @@ module _ {K : Type 0} (order : K → K → Ordering) (total : Total order) where
     counts : count-of (slots-in after) ≡ suc (count-of (slots-in before))
     counts = ap count-of added-slots ∙ count-more (slots-in before) number key (a .unused)
 
-    added-counted : min (root .count + 1) 512 ≡ count-of (slots-in after)
+    added-counted : min (root .count + 1) max-keys ≡ count-of (slots-in after)
     added-counted =
         let few : count-of (slots-in after) ≤ length (slots-in after) = count-within (slots-in after) in
         let same : length (slots-in after) ≡ length after = ap length (slots-whole after room-after) ∙ length-keys after in
@@ -177,8 +177,8 @@ module _ {K : Type 0} (order : K → K → Ordering) (total : Total order) where
     left-long : length after ≡ length mid
     left-long = ap length put ∙ length-set mid number (childless None)
 
-    left-room : length after ≤ 512
-    left-room = let room : length before ≤ 512 = d .sound .room in let same : length mid ≡ length before = same-length before mid (c .same-keys) in omega (arith, left-long)
+    left-room : length after ≤ max-keys
+    left-room = let room : length before ≤ max-keys = d .sound .room in let same : length mid ≡ length before = same-length before mid (c .same-keys) in omega (arith, left-long)
 
     -- what is left in the tree has another key, and so another node
     left-other : (n : ℕ) (k : K) → In (c .tree) n k → n ≡ number → ⊥

@@ -21,8 +21,8 @@ use Rattle.tree_index.specs.declared.link.Side.{Side}
 use Rattle.tree_index.specs.declared.link.Side.the-variants.{Left, Right}
 use Rattle.tree_index.specs.declared.node.Found.{Found}
 use Rattle.tree_index.specs.declared.node.Node.{Node}
-use Rattle.tree_index.specs.declared.remove.Least.{Least}
-use Rattle.tree_index.specs.Changes.{Becomes, Fresh, Inserts, Joins, Loses-least, Removes}
+use Rattle.tree_index.specs.declared.remove.Min.{Min}
+use Rattle.tree_index.specs.Changes.{Becomes, Inserts, Joins, Loses-min, Removes}
 use Rattle.tree_index.specs.Layouts.{Each-tree-at, Fits, Lies}
 use Rattle.tree_index.specs.Links.{child, side-of, with-child}
 use Rattle.tree_index.specs.Nodes.{Leads, relinked}
@@ -50,20 +50,20 @@ module _ {K : Type 0} (order : K → K → Ordering) (total : Total order) (befo
         }
 
     -- the least node is in the left part, or else is that of the fork
-    pub takes-left : (mid after : List (Node K)) (links : Links) (least : Least) → links ≡ with-child (found .links) Left (least .rest) → after ≡ relinked mid (found .place) links →
-        Each-tree-at order before (found .links .left) (depth - 1) (Loses-least order before mid (Some least)) →
-        Each-tree-at order before at depth (Loses-least order before after (Some (record { link = least .link; rest = at })))
+    pub takes-left : (mid after : List (Node K)) (links : Links) (least : Min) → links ≡ with-child (found .links) Left (least .rest) → after ≡ relinked mid (found .place) links →
+        Each-tree-at order before (found .links .left) (depth - 1) (Loses-min order before mid (Some least)) →
+        Each-tree-at order before at depth (Loses-min order before after (Some (record { link = least .link; rest = at })))
     takes-left mid after links least is-links is-after takes =
-        at-fork order before at depth (Loses-least order before after (Some (record { link = least .link; rest = at }))) found leads
+        at-fork order before at depth (Loses-min order before after (Some (record { link = least .link; rest = at }))) found leads
         (λ parts o lies low. least-further order total before (found .links) parts (found .place) (found .key) o lies (leads .1) mid after at least (leads .0)
         (is-after ∙ ap (relinked mid (found .place)) is-links) (takes (parts Left) (part-fits parts Left (found .links .left) refl o lies low)))
 
-    pub takes-here : (after : List (Node K)) → Each-tree-at order before (found .links .left) (depth - 1) (Loses-least order before after None) →
-        Each-tree-at order before at depth (Loses-least order before after (Some (record { link = at; rest = found .links .right })))
+    pub takes-here : (after : List (Node K)) → Each-tree-at order before (found .links .left) (depth - 1) (Loses-min order before after None) →
+        Each-tree-at order before at depth (Loses-min order before after (Some (record { link = at; rest = found .links .right })))
     takes-here after takes =
-        at-fork order before at depth (Loses-least order before after (Some (record { link = at; rest = found .links .right }))) found leads
+        at-fork order before at depth (Loses-min order before after (Some (record { link = at; rest = found .links .right }))) found leads
         (λ parts o lies low. let q = takes (parts Left) (part-fits parts Left (found .links .left) refl o lies low) in
-        subst (λ (nodes : List (Node K)). Loses-least order before nodes (Some (record { link = at; rest = found .links .right })) (fork parts (found .place) (found .key))) (sym (q .1))
+        subst (λ (nodes : List (Node K)). Loses-min order before nodes (Some (record { link = at; rest = found .links .right })) (fork parts (found .place) (found .key))) (sym (q .1))
         (least-here order total before (found .links) parts (found .place) (found .key) o lies at (leads .0) (q .0)))
 
     module _ (key : K) (o : Ordering) (told : o ≡ order key (found .key)) where
@@ -113,12 +113,13 @@ module _ {K : Type 0} (order : K → K → Ordering) (total : Total order) (befo
   right-fits : (parts : Side → Tree K) (n : ℕ) (k : K) → Ordered order (fork parts n k) → ((side : Side) → Lies before (child links side) (parts side)) → height (parts Right) ≤ depth → Fits order before (links .right) (parts Right) depth
   right-fits parts n k o lies low = record { lies = lies Right; ordered = o Right .1; low = low }
 
-  pub joins-left : Each-tree-at order before (links .right) depth (Loses-least order before after None) → Joins order before after links depth (links .left)
+  pub joins-left : Each-tree-at order before (links .right) depth (Loses-min order before after None) → Joins order before after links depth (links .left)
   joins-left takes parts n k o lies low =
       let q = takes (parts Right) (right-fits parts n k o lies low) in
       subst (λ (nodes : List (Node K)). Becomes order before nodes (fork parts n k) (links .left) k None) (sym (q .1)) (join-left order total before links parts n k o lies (q .0))
 
-  pub joins-least : (mid : List (Node K)) (place : ℕ) (least : Least) → Each-tree-at order before (links .right) depth (Loses-least order before mid (Some least)) →
-      place ≡ least .link .place → after ≡ relinked mid place (with-child links Right (least .rest)) → Joins order before after links depth (least .link)
-  joins-least mid place least takes is-place is parts n k o lies low =
-      least-comes-up order total before links parts n k o lies mid after least (is ∙ ap (λ (p : ℕ). relinked mid p (with-child links Right (least .rest))) is-place) (takes (parts Right) (right-fits parts n k o lies low))
+  pub joins-least : (mid : List (Node K)) (place : ℕ) (next : Links) (least : Min) → Each-tree-at order before (links .right) depth (Loses-min order before mid (Some least)) →
+      place ≡ least .link .place → next ≡ with-child links Right (least .rest) → after ≡ relinked mid place next → Joins order before after links depth (least .link)
+  joins-least mid place next least takes is-place is-next is-after parts n k o lies low =
+      least-comes-up order total before links parts n k o lies mid after least
+      (is-after ∙ ap (λ (p : ℕ). relinked mid p next) is-place ∙ ap (relinked mid (least .link .place)) is-next) (takes (parts Right) (right-fits parts n k o lies low))

@@ -8,7 +8,7 @@ use Rattle.tree_index.specs.declared.link.Links.{Links}
 use Rattle.tree_index.specs.declared.link.Side.{Side}
 use Rattle.tree_index.specs.declared.link.Side.the-variants.{Left, Right}
 use Rattle.tree_index.specs.declared.node.Node.{Node}
-use Rattle.tree_index.specs.declared.remove.Least.{Least}
+use Rattle.tree_index.specs.declared.remove.Min.{Min}
 use Rattle.tree_index.specs.Layouts.{Each-tree-at, Lies}
 use Rattle.tree_index.specs.Links.{child}
 use Rattle.tree_index.specs.Nodes.{keys}
@@ -50,7 +50,7 @@ Joins {K} order before after links depth link =
     Becomes order before after (fork parts n k) link k None
 
 -- the node has the least key of the tree, and the tree becomes one without it; none where the tree is empty
-abbrev pub Loses-least : {K : Type 0} → (K → K → Ordering) → List (Node K) → List (Node K) → Option Least → Tree K → Type 0
-Loses-least order before after None t = (t ≡ leaf) × (after ≡ before)
-Loses-least {K} order before after (Some least) t =
+abbrev pub Loses-min : {K : Type 0} → (K → K → Ordering) → List (Node K) → List (Node K) → Option Min → Tree K → Type 0
+Loses-min order before after None t = (t ≡ leaf) × (after ≡ before)
+Loses-min {K} order before after (Some least) t =
     (key : K) × In t (least .link .place) key × ((n : ℕ) (k : K) → In t n k → (key ≡ k → ⊥) → On order Left key k) × Becomes order before after t (least .rest) key None

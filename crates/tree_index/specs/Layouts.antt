@@ -9,7 +9,7 @@ use Rattle.tree_index.specs.declared.link.Links.{Links}
 use Rattle.tree_index.specs.declared.link.Side.{Side}
 use Rattle.tree_index.specs.declared.node.Node.{Node}
 use Rattle.tree_index.specs.declared.root.Root.{Root}
-use Rattle.tree_index.specs.Links.{child}
+use Rattle.tree_index.specs.Links.{child, max-keys}
 use Rattle.tree_index.specs.Nodes.{slots-in}
 use Rattle.tree_index.specs.Trees.{In, Ordered, Tree, fork, height, leaf}
 use Rattle.std.specs.Finite.{nth}
@@ -39,7 +39,7 @@ pub record Sound {K : Type 0} (order : K → K → Ordering) (nodes : List (Node
   pub ordered : Ordered order tree
   pub all : (n : ℕ) (key : K) → Maps (slots-in nodes) n key → In tree n key
   pub counted : root .count ≡ count-of (slots-in nodes)
-  pub room : length nodes ≤ 512
+  pub room : length nodes ≤ max-keys
 
 -- the nodes are sound, the number is free, and the key has no number
 pub record Addable {K : Type 0} (order : K → K → Ordering) (nodes : List (Node K)) (root : Root) (key : K) (number : ℕ) : Type 0 where

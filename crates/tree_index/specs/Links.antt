@@ -11,6 +11,10 @@ use Rattle.std.specs.declared.cmp.Ordering.the-variants.{Less, Equal, Greater}
 use Rattle.std.specs.declared.option.Option.{Option}
 use Rattle.std.specs.declared.option.Option.the-variants.{Some, None}
 
+-- the most keys that a tree holds, and the most nodes that it uses
+abbrev pub max-keys : ℕ
+max-keys = 512
+
 -- the side on which a key lies that stands so to a node's key; none where it is that key
 abbrev pub side-of : Ordering → Option Side
 side-of Less = Some Left
@@ -23,7 +27,7 @@ nowhere = record { place = 65535 }
 
 -- to the node of a number; nowhere where a tree has no such node
 abbrev pub link-to : ℕ → Link
-link-to number = cond (ltb number 512) (record { place = number }) nowhere
+link-to number = cond (ltb number max-keys) (record { place = number }) nowhere
 
 -- the link on a side
 abbrev pub child : Links → Side → Link

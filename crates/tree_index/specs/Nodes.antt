@@ -7,7 +7,7 @@ use Rattle.tree_index.specs.declared.link.Link.{Link}
 use Rattle.tree_index.specs.declared.link.Links.{Links}
 use Rattle.tree_index.specs.declared.node.Found.{Found}
 use Rattle.tree_index.specs.declared.node.Node.{Node}
-use Rattle.tree_index.specs.Links.{nowhere}
+use Rattle.tree_index.specs.Links.{max-keys, nowhere}
 use Rattle.std.specs.Finite.{nth}
 use Rattle.std.specs.declared.option.Option.{Option}
 use Rattle.std.specs.declared.option.Option.the-variants.{Some, None}
@@ -20,9 +20,9 @@ childless key = record { key = key; links = record { left = nowhere; right = now
 abbrev pub keys : {K : Type 0} → List (Node K) → List (Option K)
 keys nodes = map (λ node. node .key) nodes
 
--- the slots of a tree in the nodes: the node of a number lies at that place, and no more than the first 512 nodes are used
+-- the slots of a tree in the nodes: the node of a number lies at that place, and nodes past the most that a tree uses have no number
 abbrev pub slots-in : {K : Type 0} → List (Node K) → List (Option K)
-slots-in nodes = keys (take 512 nodes)
+slots-in nodes = keys (take max-keys nodes)
 
 -- what the link leads to: a node with a key, or none where there is no such node
 abbrev pub Leads : {K : Type 0} → List (Node K) → Link → Option (Found K) → Type 0

@@ -5,6 +5,7 @@ ghost use Rattle.index.specs.Slots.{empty};
 ghost use Rattle.std.specs.Finite.{nth};
 ghost use Rattle.std.specs.declared.option.Option.the-variants.{None};
 ghost use Rattle.tree_index.specs.Layouts.{Sound};
+ghost use Rattle.tree_index.specs.Links.{max-keys};
 ghost use Rattle.tree_index.specs.Nodes.{Leads, childless, relinked, slots-in};
 ghost use lib.ListN.{length, set};
 ghost use mathlib.Core.Path.{_≡_};
@@ -62,7 +63,7 @@ pub fn node_at<K: Key>(nodes: &[Node<K>], at: Link) -> Option<Found<K>>
 
 // How many of the nodes a tree uses.
 pub fn used<K: Key>(nodes: &[Node<K>]) -> usize
-    ensures answer { λ r. ⌜ r ≡ min (length (now (nodes .entry))) 512 ⌝ }
+    ensures answer { λ r. ⌜ r ≡ min (length (now (nodes .entry))) max-keys ⌝ }
 {
     nodes.len().min(MAX_KEYS)
 }
@@ -92,17 +93,14 @@ pub fn put<K: Key>(nodes: &mut [Node<K>], place: usize, key: Option<K>)
     ensures after { λ _. ⌜ now (nodes .exit) ≡ set (now (nodes .entry)) place (childless key) ⌝ }
 {
     if place < nodes.len() {
-        nodes[place] = Node {
-            key,
-            ..Node::new()
-        };
+        nodes[place] = Node { key, ..Node::new() };
     }
 }
 
 // Takes the key from every node, and answers the root of the empty tree in them.
 pub fn clear<K: Key>(nodes: &mut [Node<K>]) -> Root
-    ensures kept { λ r. ⌜ (length (now (nodes .entry)) ≤ 512 → Sound (K·Key .order) (now (nodes .exit)) r) ⌝ }
-    ensures after { λ r. ⌜ (length (now (nodes .entry)) ≤ 512 → slots-in (now (nodes .exit)) ≡ empty (length (now (nodes .entry)))) ⌝ }
+    ensures kept { λ r. ⌜ (length (now (nodes .entry)) ≤ max-keys → Sound (K·Key .order) (now (nodes .exit)) r) ⌝ }
+    ensures after { λ r. ⌜ (length (now (nodes .entry)) ≤ max-keys → slots-in (now (nodes .exit)) ≡ empty (length (now (nodes .entry)))) ⌝ }
 {
     for place in 0..nodes.len() {
         put(nodes, place, None);

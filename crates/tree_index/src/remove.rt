@@ -1,6 +1,6 @@
 // Unlinking a node from the tree at a link: one way down, and the new link handed back up.
 // The successor of the node comes up in its place, so that no way down gets longer. `depth` bounds the way.
-ghost use Rattle.tree_index.specs.Changes.{Joins, Loses-least, Removes};
+ghost use Rattle.tree_index.specs.Changes.{Joins, Loses-min, Removes};
 ghost use Rattle.tree_index.specs.Layouts.{Each-tree-at};
 use crate::link::Link;
 use crate::link::Links;
@@ -36,32 +36,29 @@ pub fn remove<K: Key>(nodes: &mut [Node<K>], at: Link, key: K, depth: usize) -> 
 fn join<K: Key>(nodes: &mut [Node<K>], links: Links, depth: usize) -> Link
     ensures after { λ r. ⌜ Joins (K·Key .order) (now (nodes .entry)) (now (nodes .exit)) links depth r ⌝ }
 {
-    match take_least(nodes, links.right, depth) {
+    match take_min(nodes, links.right, depth) {
         None => links.left,
-        Some(least) => {
+        Some(min) => {
             relink(
                 nodes,
-                least.link.place(),
-                Links {
-                    left: links.left,
-                    right: least.rest,
-                },
+                min.link.place(),
+                links.with_child(Side::Right, min.rest),
             );
-            least.link
+            min.link
         }
     }
 }
 
 // The least node of a tree, and the link to the tree without it.
 #[derive(Clone, Copy)]
-pub struct Least {
+pub struct Min {
     link: Link,
     rest: Link,
 }
 
 // Unlinks the least node from the tree at the link; none where the tree is empty.
-fn take_least<K: Key>(nodes: &mut [Node<K>], at: Link, depth: usize) -> Option<Least>
-    ensures after { λ r. ⌜ Each-tree-at (K·Key .order) (now (nodes .entry)) at depth (Loses-least (K·Key .order) (now (nodes .entry)) (now (nodes .exit)) r) ⌝ }
+fn take_min<K: Key>(nodes: &mut [Node<K>], at: Link, depth: usize) -> Option<Min>
+    ensures after { λ r. ⌜ Each-tree-at (K·Key .order) (now (nodes .entry)) at depth (Loses-min (K·Key .order) (now (nodes .entry)) (now (nodes .exit)) r) ⌝ }
 {
     match node_at(nodes, at) {
         None => None,
@@ -69,19 +66,19 @@ fn take_least<K: Key>(nodes: &mut [Node<K>], at: Link, depth: usize) -> Option<L
             if depth == 0 {
                 return None;
             }
-            match take_least(nodes, found.links.left, depth - 1) {
-                None => Some(Least {
+            match take_min(nodes, found.links.left, depth - 1) {
+                None => Some(Min {
                     link: at,
                     rest: found.links.right,
                 }),
-                Some(least) => {
+                Some(min) => {
                     relink(
                         nodes,
                         found.place,
-                        found.links.with_child(Side::Left, least.rest),
+                        found.links.with_child(Side::Left, min.rest),
                     );
-                    Some(Least {
-                        link: least.link,
+                    Some(Min {
+                        link: min.link,
                         rest: at,
                     })
                 }

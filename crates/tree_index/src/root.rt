@@ -1,6 +1,7 @@
 // The root of a tree: the link to its first node, and how many keys it has.
 // The count is kept, so that telling it is one read.
 ghost use Prim.Native.Nat.{_+_, _-_, min};
+ghost use Rattle.tree_index.specs.Links.{max-keys};
 ghost use mathlib.Core.Path.{_≡_};
 use crate::link::Link;
 use crate::link::MAX_KEYS;
@@ -20,7 +21,7 @@ impl Root {
 
     // The root of the tree that the link leads to, which has one key more, up to the most.
     pub fn with_more(self, link: Link) -> Root
-        ensures answer { λ r. ⌜ r ≡ record { link = link; count = min (self .count + 1) 512 } ⌝ }
+        ensures answer { λ r. ⌜ r ≡ record { link = link; count = min (self .count + 1) max-keys } ⌝ }
     {
         Root {
             link,

@@ -5,6 +5,7 @@ ghost use Rattle.index.specs.Slots.{empty};
 ghost use Rattle.std.specs.Finite.{nth};
 ghost use Rattle.std.specs.declared.option.Option.the-variants.{Some, None};
 ghost use Rattle.tree_index.specs.Layouts.{Addable, Discardable, Sound};
+ghost use Rattle.tree_index.specs.Links.{max-keys};
 ghost use Rattle.tree_index.specs.Nodes.{slots-in};
 ghost use Rattle.tree_index.specs.Trees.{height};
 ghost use denote.Ref.{now};
@@ -37,7 +38,7 @@ impl<'a, K: Key> SearchTree<'a, K> {
     pub fn new(nodes: &'a mut [Node<K>]) -> SearchTree<'a, K>
         ensures kept { λ r. ⌜ Sound (K·Key .order) (now (r .nodes)) (r .root) ⌝ }
         ensures answer { λ r. ⌜ slots-in (now (r .nodes)) ≡ empty (length (slots-in (now (nodes .entry)))) ⌝ }
-        ensures capacity { λ r. ⌜ length (slots-in (now (r .nodes))) ≡ min (length (now (nodes .entry))) 512 ⌝ }
+        ensures capacity { λ r. ⌜ length (slots-in (now (r .nodes))) ≡ min (length (now (nodes .entry))) max-keys ⌝ }
     {
         let capacity = used(nodes);
         let nodes = &mut nodes[..capacity];

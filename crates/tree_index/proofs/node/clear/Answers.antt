@@ -7,7 +7,7 @@ use Rattle.tree_index.proofs.Nodes.{all-alike}
 use Rattle.tree_index.proofs.Soundness.{empty-slots, empty-sound}
 use Rattle.tree_index.specs.Nodes.{childless}
 use Rattle.std.specs.Finite.{nth}
-use Rattle.std.specs.declared.option.Option.the-variants.{Some, None}
+use Rattle.std.specs.declared.option.Option.the-variants.{None}
 use Rattle.tree_index.proofs.node.clear.Needs as need
 
 pub loop-place-again : need.loop-place-again

@@ -1,4 +1,4 @@
-use mathlib.Core.Path.{refl, sym}
+use mathlib.Core.Path.{sym}
 use Rattle.std.proofs.shelf.Lists.{set-past}
 use Rattle.tree_index.proofs.node.put.Needs as need
 

@@ -1,4 +1,3 @@
-use Prim.Native.Nat.{_≤_, min}
 use lib.ListN.{length, take}
 use mathlib.Core.Path.{_≡_, ap, _∙_}
 use native.Mathlib.Omega.{arith}
