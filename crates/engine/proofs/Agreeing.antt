@@ -9,7 +9,7 @@ use mathlib.Core.Logic.{_⊎_, inl, inr, ⊎-elim}
 use mathlib.Core.Path.{_≡_, refl, sym, ap, subst, _∙_}
 use native.Mathlib.Omega.{arith}
 use lib.ListN.{length, getD, set}
-use Rattle.engine.specs.Agreement.{Agree, Agree-but, Indexed, Indexed-but, Keeps, Keeps-but}
+use Rattle.engine.specs.Agreement.{Agree, Agree-but, Indexed, Indexed-but, Keeps, Keeps-but, loses, told-of}
 use Rattle.engine.specs.declared.store.Store.{Store}
 use Rattle.index.proofs.Nth.{nth-set-same, nth-set-other, nth-within}
 use Rattle.index.proofs.Slots.{add-told, maps-cleared, maps-set, number-maps}
@@ -107,7 +107,7 @@ module _ {K : Type 0} (order : K → K → Ordering) (total : Total order) (slot
   key-added = by-slot (nth slots n) refl (number-of order slots key) refl
 
 -- a place takes a key up, or keeps its own, and the key is added with the place's number
-pub taken-up : {K : Type 0} (order : K → K → Ordering) (total : Total order) (lost : Bool) (slots : List (Option K)) (places : List (Place K)) (n : ℕ) (p : Place K) (key : K) →
+taken-up : {K : Type 0} (order : K → K → Ordering) (total : Total order) (lost : Bool) (slots : List (Option K)) (places : List (Place K)) (n : ℕ) (p : Place K) (key : K) →
     n < length places → key-of (p .state) ≡ Some key → ((k : K) → key-of (at places n) ≡ Some k → k ≡ key) →
     Agree-but lost slots places → Agree-but lost (added order slots key n) (set places n p)
 taken-up {K} order total lost slots places n p key below is kept a = record {
@@ -138,7 +138,7 @@ taken-up {K} order total lost slots places n p key below is kept a = record {
     added-so = key-added order total slots (set places n p) n key room right here
 
 -- a place becomes free and gives its number back; the key has lost its own if it was that one
-pub given-back : {K : Type 0} (lost : Bool) (slots : List (Option K)) (places : List (Place K)) (n : ℕ) (p : Place K) →
+given-back : {K : Type 0} (lost : Bool) (slots : List (Option K)) (places : List (Place K)) (n : ℕ) (p : Place K) →
     n < length places → key-of (p .state) ≡ None → Agree-but lost slots places →
     Agree-but (isOk (discard-answer slots n) || lost) (discarded slots n) (set places n p)
 given-back {K} lost slots places n p below is a = by-slot (nth slots n) refl
@@ -170,6 +170,13 @@ given-back {K} lost slots places n p below is a = by-slot (nth slots n) refl
       numbered = λ j k e. let m = maps-cleared slots n j k e in still j k (m .1) (m .0);
       listed = λ e. absurd (let z : _≡_ {A = ℕ} 0 1 = cc in omega arith);
     }
+
+-- a place changes, and the index was told what it carries now
+pub told-agrees : {K : Type 0} (order : K → K → Ordering) (total : Total order) (lost : Bool) (slots : List (Option K)) (places : List (Place K)) (n : ℕ) (p : Place K) (key : Option K) →
+    n < length places → key-of (p .state) ≡ key → ((k q : K) → key-of (at places n) ≡ Some k → key-of (p .state) ≡ Some q → k ≡ q) →
+    Agree-but lost slots places → Agree-but (loses slots n key || lost) (told-of order slots n key) (set places n p)
+told-agrees order total lost slots places n p (Some key) below is kept a = taken-up order total lost slots places n p key below is (λ k e. kept k key e is) a
+told-agrees order total lost slots places n p None below is kept a = given-back lost slots places n p below is a
 
 -- the keys of the first n places have numbers again
 pub record Listed-to {K : Type 0} (n : ℕ) (slots : List (Option K)) (places : List (Place K)) : Type 0 where

@@ -6,12 +6,14 @@ use mathlib.Core.Bool.{Bool, false, _||_}
 use mathlib.Core.List.{List}
 use mathlib.Core.Path.{_≡_}
 use Rattle.engine.specs.declared.store.Store.{Store}
-use Rattle.index.specs.Slots.{Maps}
+use Rattle.index.specs.Slots.{Maps, added, discard-answer, discarded}
 use Rattle.ledger.specs.Places.{key-of}
 use Rattle.ledger.specs.declared.place.Place.{Place}
 use Rattle.std.specs.Of.Vec.{vec-items}
+use Rattle.std.specs.Results.{isOk}
+use Rattle.std.specs.declared.cmp.Ordering.{Ordering}
 use Rattle.std.specs.declared.option.Option.{Option}
-use Rattle.std.specs.declared.option.Option.the-variants.{Some}
+use Rattle.std.specs.declared.option.Option.the-variants.{Some, None}
 use Rattle.table.specs.Views.{at, view}
 
 -- every key that a place carries has a number
@@ -30,6 +32,16 @@ pub record Agree-but {K : Type 0} (lost : Bool) (slots : List (Option K)) (place
   pub enough : length places ≤ length slots
   pub numbered : (n : ℕ) (key : K) → Maps slots n key → key-of (at places n) ≡ Some key
   pub listed : lost ≡ false → Listed slots places
+
+-- the slots of the index once it was told what the place with the number carries
+abbrev pub told-of : {K : Type 0} → (K → K → Ordering) → List (Option K) → ℕ → Option K → List (Option K)
+told-of order slots n (Some key) = added order slots key n
+told-of order slots n None = discarded slots n
+
+-- has a key lost its number by that?
+abbrev pub loses : {K : Type 0} → List (Option K) → ℕ → Option K → Bool
+loses slots n (Some key) = false
+loses slots n None = isOk (discard-answer slots n)
 
 -- a refused call changes nothing: neither the index, nor what the table means
 abbrev pub Unchanged : {I K : Type 0} → Store I K → Store I K → Type 0

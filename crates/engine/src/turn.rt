@@ -1,7 +1,7 @@
 // How places change: by one function, which keeps every number of the index right.
 // A place that becomes free gives its number back. Where its key is carried by another place still, the key gets a
 // new number from `relist`, once for all the places that a call frees, so that no call scans the places for each.
-ghost use Rattle.engine.specs.Agreement.{Agree, Agree-but, Indexed, Indexed-but, Keeps-but};
+ghost use Rattle.engine.specs.Agreement.{Agree, Agree-but, Indexed, Indexed-but, Keeps-but, loses, told-of};
 ghost use Rattle.table.specs.Drafts.{turned};
 ghost use Rattle.table.specs.Views.{view, with-places};
 ghost use mathlib.Core.Bool.{Bool};
@@ -23,14 +23,7 @@ impl<I: Index> Store<I> {
         }
         let next = place_at(&self.table.places, n).on(event);
         self.table.places[n] = next;
-        match next.key() {
-            Some(key) => {
-                // refused where the key has a number already
-                let _ = self.index.add(key, n);
-                false
-            }
-            None => self.index.discard(n).is_ok(),
-        }
+        tell(&mut self.index, n, next.key())
     }
 
     // Gives each key that a place carries a number, if it has none.
@@ -39,6 +32,25 @@ impl<I: Index> Store<I> {
         ensures index { λ _. ⌜ ((lost : Bool) → Indexed-but (I·Index .sound) (I·Index .slots) lost (now (self .entry)) → Indexed (I·Index .sound) (I·Index .slots) (now (self .exit))) ⌝ }
     {
         list_keys(&mut self.index, &self.table.places);
+    }
+}
+
+// Tells the index what the place carries now: its key gets the number of the place, unless it has one already, and a free
+// place gives its number back. Answers whether a key has lost its number.
+fn tell<I: Index>(index: &mut I, n: usize, key: Option<I::Key>) -> bool
+    ensures answer { λ lost. ⌜ (I·Index .sound (now (index .entry)) → lost ≡ loses (I·Index .slots (now (index .entry))) n key) ⌝ }
+    ensures after { λ _. ⌜ (I·Index .sound (now (index .entry)) → I·Index .slots (now (index .exit)) ≡ told-of (Key·Key .order) (I·Index .slots (now (index .entry))) n key) ⌝ }
+    ensures kept { λ _. ⌜ (I·Index .sound (now (index .entry)) → I·Index .sound (now (index .exit))) ⌝ }
+{
+    match key {
+        Some(key) => {
+            let _ = index.add(key, n);
+            false
+        }
+        None => match index.discard(n) {
+            Ok(()) => true,
+            Err(_) => false,
+        },
     }
 }
 

@@ -18,13 +18,14 @@ use Rattle.engine.proofs.store.Store.walk.Needs as need
 pub returns : need.returns
 returns g c =
     let open-is : open-report (view (c .args .self .now .table)) (c .args .report) ≡ Some (c .in-Continue-open .open) = found-some _ _ _ (c .in-Continue-open .ensures tt .answer) in
-    record
-      { answer = λ a.
+    record {
+      answer = λ a.
           let v = view (c .args .self .now .table) in
           let order = g .Key·Key .order in
           let stamp : sight (view (c .args .self .now .table)) (c .args .report) ≡ c .in-Continue-open .open .stamp = ap (λ (o : Option Report). valueOr (mapped (λ r. r .stamp) o) 0) open-is in
-          let marks = subst (λ ps. Marks order (g .I·Index .slots (c .args .self .now .index)) ps (c .in-Continue-open .open .stamp) (c .mark-seen-marks .result)) (c .deref .ensures .value) (c .mark-seen-marks .ensures .answer (a .0)) in
-          ( rw open-is
-          , subst (λ s. Least order (λ key. is-visible order (v .places) s key && beyond order (c .args .after) key) (c .next-marked .result)) (sym stamp) (c .next-marked .ensures .answer a marks) )
-      ; refused = (rw open-is, tt)
-      }
+          let marks = subst (λ ps. Marks order (g .I·Index .slots (c .args .self .now .index)) ps (c .in-Continue-open .open .stamp) (c .mark-seen-marks .result)) (c .deref .ensures .value) (c .mark-seen-marks .ensures .answer (a .0)) in (
+            rw open-is,
+            subst (λ s. Least order (λ key. is-visible order (v .places) s key && beyond order (c .args .after) key) (c .next-marked .result)) (sym stamp) (c .next-marked .ensures .answer a marks),
+          );
+      refused = (rw open-is, tt);
+    }
