@@ -2,7 +2,7 @@
 //! former versions that nobody wants, and then make the calls that may or may
 //! not age the store by themselves. An age call afterwards tells.
 
-use crate::desk::ROW;
+use crate::desk::{OpenJob, ROW};
 use crate::key::Key;
 use crate::script::Script;
 use crate::staged::commit_keys;
@@ -10,10 +10,23 @@ use crate::sweep;
 
 const PLACES: usize = 64;
 
+/// What the job tries when the places are taken.
+#[derive(Clone, Copy, PartialEq, Eq)]
+enum Attempt {
+    /// Puts and removes that its full row refuses.
+    WithFullRow,
+    /// Calls of all sorts.
+    OfAllSorts,
+}
+
 pub fn brink(script: &mut Script) {
-    let count = match script.chance.below(3) {
-        0 => script.chance.between(38, 44),
-        _ => script.chance.between(5, 37),
+    let attempt = match script.turn % 3 {
+        0 => Attempt::WithFullRow,
+        _ => Attempt::OfAllSorts,
+    };
+    let count = match attempt {
+        Attempt::WithFullRow => script.chance.between(ROW + 6, ROW + 12),
+        Attempt::OfAllSorts => script.chance.between(5, ROW + 12),
     };
     script.use_keys(count);
     script.stray_in = 0;
@@ -32,11 +45,14 @@ pub fn brink(script: &mut Script) {
     for key in &present[..drafts] {
         script.put(job, *key);
     }
-    if script.chance.one_in(3) {
+    if attempt == Attempt::WithFullRow || script.chance.one_in(3) {
         fill_row(script, job, &present);
     }
     for _ in 0..script.chance.between(1, 5) {
-        touch(script, job);
+        match attempt {
+            Attempt::WithFullRow => touch_what_is_not_held(script, job),
+            Attempt::OfAllSorts => touch(script, job),
+        }
     }
     if script.chance.one_in(4) {
         let limit = script.limit();
@@ -86,38 +102,46 @@ fn fill_row(script: &mut Script, job: u32, present: &[Key]) {
 
 /// One call that may need a place or an entry, or neither.
 fn touch(script: &mut Script, job: u32) {
-    let held = script
-        .desk
-        .job(job)
-        .map(|job| job.held())
-        .unwrap_or_default();
-    let drafts = script
-        .desk
-        .job(job)
-        .map(|job| job.drafts())
-        .unwrap_or_default();
     let any = script.chance.pick(&script.keys);
-    let held = script.chance.pick_any(&held).unwrap_or(any);
-    let draft = script.chance.pick_any(&drafts).unwrap_or(any);
-    match script.chance.below(16) {
+    let draft = some_of(script, job, |job, key| job.drafts().contains(&key)).unwrap_or(any);
+    let held = some_of(script, job, |job, key| job.holds(key)).unwrap_or(any);
+    match script.chance.below(20) {
         0..=2 => script.put(job, draft),
         3 => script.put(job, held),
-        4 | 5 => script.put(job, any),
-        6 | 7 => script.remove(job, draft),
-        8 => script.remove(job, held),
-        9 => script.remove(job, any),
-        10 => script.look(job, any),
-        11 => by_another_job(script, held),
-        12 => {
+        4 | 5 => script.remove(job, draft),
+        6 => script.remove(job, held),
+        7..=11 => touch_what_is_not_held(script, job),
+        12 => script.look(job, any),
+        13 => by_another_job(script, held),
+        14 => {
             let limit = script.limit();
             script.age(limit);
         }
-        13 => {
+        15 => {
             let ticket = script.dead_ticket();
             script.put(ticket, any);
         }
         _ => script.age_all(),
     }
+}
+
+/// A put or a remove that needs both a place and an entry.
+fn touch_what_is_not_held(script: &mut Script, job: u32) {
+    if let Some(key) = some_of(script, job, |job, key| !job.holds(key)) {
+        if script.chance.one_in(2) {
+            script.put(job, key);
+        } else {
+            script.remove(job, key);
+        }
+    }
+}
+
+/// A key of the session of which this is true for the open job.
+fn some_of(script: &mut Script, job: u32, is: impl Fn(&OpenJob, Key) -> bool) -> Option<Key> {
+    let job = script.desk.job(job)?;
+    let mut keys = script.keys.clone();
+    keys.retain(|key| is(job, *key));
+    script.chance.pick_any(&keys)
 }
 
 /// Another job tries the key that the first one may hold, and gives up.

@@ -34,10 +34,6 @@ impl OpenJob {
         self.row.contains(&key)
     }
 
-    pub fn held(&self) -> Vec<Key> {
-        self.row.iter().copied().collect()
-    }
-
     pub fn drafts(&self) -> Vec<Key> {
         self.wrote.keys().copied().collect()
     }

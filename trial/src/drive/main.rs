@@ -75,7 +75,7 @@ fn read_order() -> Result<Order, String> {
         program: PathBuf::from(program),
         reference: beside_this_program("reference")?,
         sessions: 200,
-        first_seed: 1,
+        first_seed: 0,
         keep: PathBuf::from("target/difference.txt"),
         print: None,
     };
@@ -146,10 +146,9 @@ fn compare(order: &Order, session: &Session) -> Result<Vec<u8>, String> {
             return Err(format!("the reference is wrong\n{difference}"));
         }
     }
-    let feed = if session.seed % PIECES_IN == 0 {
-        Feed::Pieces { seed: session.seed }
-    } else {
-        Feed::Whole
+    let feed = match session.seed % PIECES_IN {
+        0 => Feed::Pieces { seed: session.seed },
+        _ => Feed::Whole,
     };
     let output = output_of("the program", &order.program, session, feed)?;
     if output != expected {

@@ -106,102 +106,126 @@ fn with_wrong_field(chance: &mut Chance, fields: &[&str]) -> Vec<u8> {
         return with_wrong_spaces(chance, fields);
     }
     let at = chance.between(1, fields.len() - 1);
-    let field = fields[at];
-    let wrong = match at {
-        1 => wrong_number(chance, field, u32::MAX),
-        2 => wrong_key(chance, field),
-        3 => wrong_number(chance, field, 255),
-        4 | 5 => wrong_number(chance, field, 65_535),
-        _ => wrong_coolant(chance, field),
-    };
+    let wrong = wrong_texts(at, fields[at]);
+    with_field(fields, at, &wrong[chance.below(wrong.len())])
+}
+
+/// The line with every field wrong in every way, one at a time.
+pub fn every_wrong_field(good: &str) -> Vec<Vec<u8>> {
+    let fields: Vec<&str> = good.split(' ').collect();
+    let mut lines = Vec::new();
+    for at in 1..fields.len() {
+        for wrong in wrong_texts(at, fields[at]) {
+            lines.push(with_field(&fields, at, &wrong));
+        }
+    }
+    lines
+}
+
+fn with_field(fields: &[&str], at: usize, text: &str) -> Vec<u8> {
     let mut changed = fields.to_vec();
-    changed[at] = &wrong;
+    changed[at] = text;
     changed.join(" ").into_bytes()
 }
 
-/// Not a decimal number up to the highest one, though it looks like the good
-/// one. Some would be the good one again if higher bits were lost.
-fn wrong_number(chance: &mut Chance, good: &str, highest: u32) -> String {
+/// Texts that do not follow the form of the field at this position, or lie
+/// outside its range, though they look like the good one.
+fn wrong_texts(at: usize, good: &str) -> Vec<String> {
+    match at {
+        1 => wrong_numbers(good, u32::MAX),
+        2 => wrong_keys(good),
+        3 => wrong_numbers(good, 255),
+        4 | 5 => wrong_numbers(good, 65_535),
+        _ => wrong_coolants(good),
+    }
+}
+
+/// Some of these would be the good number again if higher bits were lost.
+fn wrong_numbers(good: &str, highest: u32) -> Vec<String> {
     let value: u128 = good.parse().expect("the field is a number");
     let above = u128::from(highest) + 1;
-    match chance.below(17) {
-        0 => format!("0{good}"),
-        1 => format!("00{good}"),
-        2 => format!("+{good}"),
-        3 => format!("-{good}"),
-        4 => "-0".to_string(),
-        5 => String::new(),
-        6 => above.to_string(),
-        7 => (value + above).to_string(),
-        8 => (value + (1 << 32)).to_string(),
-        9 => (value + (1 << 64)).to_string(),
-        10 => format!("1{:0>20}", good),
-        11 => format!("{good}."),
-        12 => format!("{good}x"),
-        13 => format!("0x{good}"),
-        14 => format!("{good},0"),
-        15 => format!("{good}A"),
-        _ => format!("-{above}"),
-    }
+    vec![
+        format!("0{good}"),
+        format!("00{good}"),
+        format!("+{good}"),
+        format!("-{good}"),
+        "-0".to_string(),
+        String::new(),
+        above.to_string(),
+        (value + above).to_string(),
+        (value + (1 << 32)).to_string(),
+        (value + (1 << 64)).to_string(),
+        format!("1{:0>20}", good),
+        format!("{good}."),
+        format!("{good}/"),
+        format!("{good}:"),
+        format!("{good}x"),
+        format!("0x{good}"),
+        format!("{good},0"),
+        format!("{good}A"),
+        format!("-{above}"),
+    ]
 }
 
-fn wrong_coolant(chance: &mut Chance, good: &str) -> String {
+fn wrong_coolants(good: &str) -> Vec<String> {
     let value: i64 = good.parse().expect("the field is a number");
     let digits = value.abs();
-    match chance.below(20) {
-        0 => "-41".to_string(),
-        1 => "216".to_string(),
-        2 => "-0".to_string(),
-        3 => "-00".to_string(),
-        4 => format!("+{digits}"),
-        5 => format!("-0{digits}"),
-        6 => format!("0{digits}"),
-        7 => format!("--{digits}"),
-        8 => "-".to_string(),
-        9 => String::new(),
-        10 => format!("{digits}-"),
-        11 => (value + 256).to_string(),
-        12 => (value - 256).to_string(),
-        13 => (value + 65_536).to_string(),
-        14 => (value + (1 << 32)).to_string(),
-        15 => (value - (1 << 32)).to_string(),
-        16 => "-215".to_string(),
-        17 => "255".to_string(),
-        18 => "-400".to_string(),
-        _ => "2150".to_string(),
-    }
+    vec![
+        "-41".to_string(),
+        "216".to_string(),
+        "-0".to_string(),
+        "-00".to_string(),
+        format!("+{digits}"),
+        format!("-0{digits}"),
+        format!("0{digits}"),
+        format!("--{digits}"),
+        "-".to_string(),
+        String::new(),
+        format!("{digits}-"),
+        (value + 256).to_string(),
+        (value - 256).to_string(),
+        (value + 65_536).to_string(),
+        (value + (1 << 32)).to_string(),
+        (value - (1 << 32)).to_string(),
+        "-215".to_string(),
+        "255".to_string(),
+        "-400".to_string(),
+        "2150".to_string(),
+    ]
 }
 
-/// Not a code key text, though it looks like the good one.
-fn wrong_key(chance: &mut Chance, good: &str) -> String {
+fn wrong_keys(good: &str) -> Vec<String> {
     let unit = &good[..4];
     let letter = &good[5..6];
     let digit = &good[6..7];
     let others = &good[7..];
-    match chance.below(18) {
-        0 => good.to_lowercase(),
-        1 => format!("{unit}:{}{digit}{others}", letter.to_lowercase()),
-        2 => format!("{unit}:{letter}{digit}a{}", &others[1..]),
-        3 => format!("e{}:{letter}{digit}{others}", &unit[1..]),
-        4 => format!(
-            "{unit}:{}{digit}{others}",
-            chance.pick(&["A", "D", "Q", "0", "V", "O"])
-        ),
-        5 => format!(
-            "{unit}:{letter}{}{others}",
-            chance.pick(&["4", "9", "/", "A", "O", "-"])
-        ),
-        6 => format!("{unit}:{letter}{digit}{}G", &others[..2]),
-        7 => format!("{unit}:{letter}{digit}@{}", &others[1..]),
-        8 => format!("{}G:{letter}{digit}{others}", &unit[..3]),
-        9 => format!("{unit}{letter}{digit}{others}"),
-        10 => format!("{unit}::{letter}{digit}{others}"),
-        11 => format!("{unit};{letter}{digit}{others}"),
-        12 => good[..9].to_string(),
-        13 => format!("{good}0"),
-        14 => good[1..].to_string(),
-        15 => format!("0{good}"),
-        16 => format!("{letter}{digit}{others}:{unit}"),
-        _ => String::new(),
+    let mut keys = vec![
+        good.to_lowercase(),
+        format!("{unit}:{}{digit}{others}", letter.to_lowercase()),
+        format!("{unit}:{letter}{digit}a{}", &others[1..]),
+        format!("{unit}:{letter}{digit}{}f", &others[..2]),
+        format!("e{}:{letter}{digit}{others}", &unit[1..]),
+        format!("{unit}:{letter}{digit}{}G", &others[..2]),
+        format!("{unit}:{letter}{digit}@{}", &others[1..]),
+        format!("{unit}:{letter}{digit}{}:", &others[..2]),
+        format!("{}G:{letter}{digit}{others}", &unit[..3]),
+        format!("/{}:{letter}{digit}{others}", &unit[1..]),
+        format!("{unit}{letter}{digit}{others}"),
+        format!("{unit}::{letter}{digit}{others}"),
+        format!("{unit};{letter}{digit}{others}"),
+        format!("{unit}0{letter}{digit}{others}"),
+        good[..9].to_string(),
+        format!("{good}0"),
+        good[1..].to_string(),
+        format!("0{good}"),
+        format!("{letter}{digit}{others}:{unit}"),
+        String::new(),
+    ];
+    for wrong in ["A", "D", "Q", "0", "V", "O"] {
+        keys.push(format!("{unit}:{wrong}{digit}{others}"));
     }
+    for wrong in ["4", "9", "/", "A", "O", "-"] {
+        keys.push(format!("{unit}:{letter}{wrong}{others}"));
+    }
+    keys
 }

@@ -151,8 +151,11 @@ pub fn malformed(script: &mut Script) {
     ];
     let count = script.chance.between(2, 5);
     script.use_keys(count);
-    let bytes = script.chance.between(500, 14_000);
+    let bytes = script.chance.between(500, 9000);
     steps(script, &WEIGHTS, bytes);
+    for _ in 0..script.chance.below(3) {
+        script.every_wrong_field();
+    }
     sweep::everything(script);
 }
 

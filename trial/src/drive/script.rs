@@ -407,11 +407,26 @@ impl Script {
     }
 
     fn malformed_line(&mut self) -> Vec<u8> {
+        let good = self.good_line();
+        malformed::spoil(&mut self.chance, &good)
+    }
+
+    /// One line with each of its fields wrong in every way.
+    pub fn every_wrong_field(&mut self) {
+        let good = self.good_line();
+        for line in malformed::every_wrong_field(&good) {
+            self.line(&line);
+        }
+    }
+
+    /// A line that follows its form. It is not written, so the model need not
+    /// know of it.
+    fn good_line(&mut self) -> String {
         let report = self.ticket(Takes::Report);
         let job = self.ticket(Takes::Job);
         let key = self.any_key();
         let limit = self.limit();
-        let good = match self.chance.below(14) {
+        match self.chance.below(16) {
             0 => "R".to_string(),
             1 => "J".to_string(),
             2 => format!("E {report}"),
@@ -424,7 +439,6 @@ impl Script {
             9 => format!("A {job}"),
             10 => format!("S {limit}"),
             _ => format!("P {job} {key} {}", self.record()),
-        };
-        malformed::spoil(&mut self.chance, &good)
+        }
     }
 }
