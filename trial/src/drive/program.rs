@@ -27,28 +27,28 @@ pub enum Outcome {
     TookTooLong,
 }
 
+/// The threads for input and output are left to themselves when the program
+/// has to be stopped, since something that it started may keep the pipes open.
 pub fn run(program: &Path, input: &[u8], feed: Feed) -> io::Result<Outcome> {
+    let deadline = Instant::now() + PATIENCE;
     let mut child = Command::new(program)
         .stdin(Stdio::piped())
         .stdout(Stdio::piped())
         .spawn()?;
     let stdin = child.stdin.take().expect("the input is a pipe");
     let stdout = child.stdout.take().expect("the output is a pipe");
-    let deadline = Instant::now() + PATIENCE;
-    thread::scope(|scope| {
-        scope.spawn(move || write_input(stdin, input, feed));
-        let (sender, receiver) = mpsc::channel();
-        scope.spawn(move || sender.send(read_output(stdout)));
-        let Ok(output) = receiver.recv_timeout(PATIENCE) else {
-            child.kill()?;
-            child.wait()?;
-            return Ok(Outcome::TookTooLong);
-        };
-        let output = output?;
-        Ok(match wait_until(&mut child, deadline)? {
-            Some(status) => Outcome::Ended { status, output },
-            None => Outcome::TookTooLong,
-        })
+    let input = input.to_vec();
+    thread::spawn(move || write_input(stdin, &input, feed));
+    let (sender, receiver) = mpsc::channel();
+    thread::spawn(move || sender.send(read_output(stdout)));
+    let Ok(output) = receiver.recv_timeout(PATIENCE) else {
+        stop(&mut child)?;
+        return Ok(Outcome::TookTooLong);
+    };
+    let output = output?;
+    Ok(match wait_until(&mut child, deadline)? {
+        Some(status) => Outcome::Ended { status, output },
+        None => Outcome::TookTooLong,
     })
 }
 
@@ -88,10 +88,15 @@ fn wait_until(child: &mut Child, deadline: Instant) -> io::Result<Option<ExitSta
             return Ok(Some(status));
         }
         if Instant::now() > deadline {
-            child.kill()?;
-            child.wait()?;
+            stop(child)?;
             return Ok(None);
         }
         thread::sleep(Duration::from_micros(100));
     }
+}
+
+fn stop(child: &mut Child) -> io::Result<()> {
+    child.kill()?;
+    child.wait()?;
+    Ok(())
 }
