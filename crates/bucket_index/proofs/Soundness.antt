@@ -1,5 +1,8 @@
--- Soundness of the bucket index: a new one has it, add and discard keep it, and find answers by it.
--- Each lemma takes the index before and after a call, and what the call says of heads, cells and count one by one.
+-- Soundness of the bucket index: a new one has it, find answers by it, and add and discard keep it.
+-- A new index has no key, so every chain is empty and holds what its bucket has. Add and discard change one slot: the chains are
+-- kept by what proofs/Buckets shows, and that keys stay apart and the count right by the laws of slots; a count that is right is at
+-- most the capacity, so that it never reaches the end of its type. Each lemma takes the index before and after, and what the
+-- functions on the memory promise of heads, cells and count one by one.
 use Prim.Native.Nat.{ℕ, zero, suc, min, _+_, _-_, _<_, _≤_, _^_}
 use mathlib.Core.List.{List}
 use mathlib.Core.Path.{_≡_, sym, ap, _∙_, subst}

@@ -1,10 +1,10 @@
 -- Versions but for some that were freed: how a store's places stand to the model's list.
 -- A version is freeable when it is superseded and in no open report's span. The relation is kept by whatever picks or changes versions one by one and
 -- leaves freeable ones alone, by one version more on both sides, and by ageing, which frees some more.
-use mathlib.Core.Path.{_≡_, refl, sym, ap, subst, _∙_}
-use mathlib.Core.Bool.{Bool, true, false, cond, not, _&&_}
+use mathlib.Core.Path.{_≡_, refl, sym, subst}
+use mathlib.Core.Bool.{Bool, true, false, not, _&&_}
 use Prim.Native.Nat.{ℕ}
-use Rattle.std.specs.shelf.Lists.{List, [], _∷_, _++_, kept-by, All}
+use Rattle.std.specs.shelf.Lists.{List, _∷_, _++_, kept-by, All}
 use Rattle.std.proofs.shelf.Lists.{append-assoc}
 use Rattle.std.proofs.shelf.Elements.{all-append, all-weaker, kept-by-passes}
 use Rattle.std.specs.declared.option.Option.{Option}
@@ -13,7 +13,7 @@ use Rattle.ledger.specs.declared.place.Report.{Report}
 use Rattle.ledger.specs.Words.{when, listed, picked}
 use Rattle.ledger.specs.Places.{in-report}
 use Rattle.ledger.specs.Versions.{Version, draft, committed, wanted, finished}
-use Rattle.ledger.proofs.Permutations.{Perm, skip, then, perm-eq, perm-sym, perm-joined, perm-append-left, perm-append-right, picked-kept, kept-both}
+use Rattle.ledger.proofs.Permutations.{Perm, skip, then, perm-eq, perm-joined, perm-append-left, perm-append-right, picked-kept, kept-both}
 use Rattle.ledger.proofs.Finding.{never, joined-append, picked-self}
 use Rattle.ledger.proofs.Contents.{spared}
 
@@ -75,7 +75,3 @@ module _ {K R : Type 0} (reports : List Report) (all here : List (Version K R)) 
     where
       gone : List (Version K R)
       gone = kept-by (λ v. not (spared test reports v)) here
-
-  -- while other reports are open, as long as freeable ones stay so
-  pub but-freed-still : (reports′ : List Report) → ((v : Version K R) → Freeable reports v → Freeable reports′ v) → All-but-freed reports′ all here
-  but-freed-still reports′ still = record { freed = w .freed; listed = w .listed; freeable = all-weaker (Freeable reports) (Freeable reports′) still (w .freed) (w .freeable) }

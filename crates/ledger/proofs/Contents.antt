@@ -16,12 +16,12 @@ use Rattle.ledger.specs.declared.place.Place.{Place}
 use Rattle.ledger.specs.declared.place.PlaceState.{PlaceState}
 use Rattle.ledger.specs.declared.place.PlaceState.the-variants.{Free, Unstamped, Gone, Current, Superseded}
 use Rattle.ledger.specs.declared.place.Report.{Report}
-use Rattle.ledger.specs.Words.{when, listed, picked, every}
+use Rattle.ledger.specs.Words.{when, listed, picked}
 use Rattle.ledger.specs.Places.{free, in-report, is-free, is-wanted}
 use Rattle.ledger.specs.Versions.{Version, draft, committed, wanted, finished, drafted-by, settled}
 use Rattle.ledger.specs.Steps.{version-in, versions-in, all-wanted, place-settled, place-aborted, place-aged}
 use Rattle.ledger.proofs.Permutations.{Perm, perm-refl, perm-shift, picked-kept}
-use Rattle.ledger.proofs.Finding.{never, and-then, joined-append}
+use Rattle.ledger.proofs.Finding.{never, and-then}
 
 -- a change of each place is a change of each version
 versions-map : {K R : Type 0} (f : Place K → Place K) (g : Version K R → Option (Version K R)) → ((p : PlaceState K) (r : R) → version-in (f (record { state = p }) .state) r ≡ and-then (version-in p r) g) → (ps : List (Place K)) (rs : List R) → versions-in (map f ps) rs ≡ picked g (versions-in ps rs)

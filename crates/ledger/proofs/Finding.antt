@@ -1,7 +1,7 @@
 -- What `first`, `any` and counts give on lists that were joined, filtered or shuffled.
 -- The one idea: where at most one element of a list is found, its place in the list does not matter.
 use mathlib.Core.Path.{_≡_, refl, sym, ap, subst, _∙_}
-use mathlib.Core.Bool.{Bool, true, false, cond, not, _&&_, _||_}
+use mathlib.Core.Bool.{Bool, true, false, cond, _&&_, _||_}
 use Prim.Native.Nat.{ℕ, _+_, _≤_}
 use native.Mathlib.Omega.{arith}
 use Rattle.std.specs.shelf.Lists.{List, [], _∷_, _++_, kept-by, joined, countBy, sumBy, All}

@@ -4,12 +4,12 @@
 -- a new report begins at the store's stamp, which no finish passes.
 use mathlib.Core.Path.{_≡_, refl, sym, ap, subst, _∙_, fun-ext}
 use mathlib.Core.Bool.{Bool, true, false, cond, not, _&&_, _||_}
-use Prim.Native.Nat.{ℕ, _+_, _≤_, _<_}
+use Prim.Native.Nat.{ℕ, _+_, _≤_}
 use native.Mathlib.Omega.{arith}
 use lib.Dec.{eqb, leb, ltb}
-use Rattle.std.specs.shelf.Lists.{List, [], _∷_, _++_, kept-by, countBy, All, length, map, set, getD}
-use Rattle.std.proofs.shelf.Lists.{append-assoc, length-set, length-map, set-getD}
-use Rattle.std.proofs.shelf.Elements.{all-append, all-weaker, kept-by-append, kept-by-passes}
+use Rattle.std.specs.shelf.Lists.{List, _∷_, _++_, kept-by, countBy, All, length, map, set, getD}
+use Rattle.std.proofs.shelf.Lists.{length-set, length-map, set-getD}
+use Rattle.std.proofs.shelf.Elements.{all-weaker}
 use Rattle.std.proofs.shelf.Sums.{sumBy-cons, sumBy-append}
 use Rattle.std.proofs.shelf.Tests.{eqb-true, le-ltb, and-parts, and-right}
 use Rattle.std.specs.Options.{isSome}
@@ -23,16 +23,15 @@ use Rattle.ledger.specs.declared.call.BasicCall.the-variants.{BeginReport, Beg
 use Rattle.ledger.specs.declared.place.Place.{Place}
 use Rattle.ledger.specs.declared.place.PlaceState.{PlaceState}
 use Rattle.ledger.specs.declared.place.PlaceState.the-variants.{Free, Unstamped, Gone, Current, Superseded}
-use Rattle.ledger.specs.declared.place.Report.{Report}
-use Rattle.ledger.specs.Words.{when, listed, picked, any, same}
+use Rattle.ledger.specs.Words.{listed, any, same}
 use Rattle.ledger.specs.Places.{next, free, spans, in-report, is-free, is-draft-of, carries}
-use Rattle.ledger.specs.Versions.{Version, draft, committed, wanted, drafted-by, draft-in, draft-at, has-draft, settled}
-use Rattle.ledger.specs.Calls.{Exchange, Change, keeps, drafts, commits, aborts, ages, change}
-use Rattle.ledger.specs.Steps.{State, Summary, summary, version-in, versions-in, all-wanted, sent-back, control-after, place-settled, place-aborted, place-aged, draft-event, shelved, ready, suits, Takes, Moves}
-use Rattle.ledger.proofs.Permutations.{Perm, skip, then, perm-eq, perm-sym, perm-all, perm-sum, perm-kept, perm-joined, perm-append-left, perm-append-right, kept-both}
-use Rattle.ledger.proofs.Finding.{never, found, found-when, none-found, none-if, all-none, all-both, all-append-parts, any-kept, any-push, kept-all, joined-append, picked-self}
-use Rattle.ledger.proofs.ButFreed.{Freeable, All-but-freed, but-freed-perm, but-freed-cons, but-freed-picked, but-freed-kept, but-freed-aged, but-freed-still}
-use Rattle.ledger.proofs.Contents.{Taken, taken, versions-free, versions-settled, versions-aborted, versions-aged, spared, full-is}
+use Rattle.ledger.specs.Versions.{Version, draft, committed, drafted-by, draft-in, draft-at, has-draft, settled}
+use Rattle.ledger.specs.Calls.{Change, keeps, drafts, commits, aborts, ages, change}
+use Rattle.ledger.specs.Steps.{State, Summary, summary, version-in, versions-in, all-wanted, sent-back, control-after, place-settled, place-aborted, place-aged, draft-event, shelved, ready, Takes, Moves}
+use Rattle.ledger.proofs.Permutations.{Perm, then, perm-eq, perm-sym, perm-all, perm-sum, perm-kept}
+use Rattle.ledger.proofs.Finding.{never, found, found-when, none-found, none-if, all-none, all-both, all-append-parts, any-kept, any-push, kept-all}
+use Rattle.ledger.proofs.ButFreed.{Freeable, All-but-freed, but-freed-perm, but-freed-cons, but-freed-picked, but-freed-kept, but-freed-aged}
+use Rattle.ledger.proofs.Contents.{Taken, taken, versions-free, versions-settled, versions-aborted, versions-aged, full-is}
 use Rattle.ledger.proofs.Model.{full, met, versions-after, moved-on, In-time, Sound, Agrees, freeable-no-draft, same-draft, same-current, same-wanted}
 use Rattle.ledger.proofs.Settling.{same-is}
 use Rattle.ledger.proofs.Soundness.{sound-after}

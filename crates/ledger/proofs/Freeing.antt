@@ -1,11 +1,11 @@
 -- (c), of age: after an age call a version that finished below its limit has a place exactly when an open report's stamp lies in its span.
 -- The ledger's versions are those in the places and those that were freed. One that is wanted was never freed, and ageing leaves its place;
 -- one that still has a place after ageing, though it finished below the limit, is wanted.
-use mathlib.Core.Path.{_≡_, refl, sym, ap, subst, _∙_}
+use mathlib.Core.Path.{_≡_, refl, ap, subst}
 use mathlib.Core.Bool.{Bool, true, false, cond, not, _&&_}
 use Prim.Native.Nat.{ℕ, zero, suc, _<_}
 use lib.Dec.{ltb}
-use Rattle.std.specs.shelf.Lists.{List, [], _∷_, _++_, All, map}
+use Rattle.std.specs.shelf.Lists.{List, [], _∷_, All, map}
 use Rattle.std.specs.shelf.Maps.{nth}
 use Rattle.std.proofs.shelf.Elements.{all-append, all-weaker}
 use Rattle.std.proofs.shelf.Tests.{lt-ltb}

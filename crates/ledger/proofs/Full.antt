@@ -13,7 +13,6 @@ use Rattle.std.specs.declared.option.Option.{Option}
 use Rattle.std.specs.declared.option.Option.the-variants.{Some, None}
 use Rattle.keys.specs.Orders.{Total}
 use Rattle.keys.specs.Refusals.{Code, plain}
-use Rattle.ledger.specs.declared.call.TicketId.{TicketId}
 use Rattle.ledger.specs.declared.call.Call.{Call}
 use Rattle.ledger.specs.declared.call.Call.the-variants.{Walk, Basic}
 use Rattle.ledger.specs.declared.call.BasicCall.the-variants.{BeginReport, BeginJob, Read, Look, Put, Remove, Commit, Abort, End, Age}
@@ -21,10 +20,10 @@ use Rattle.ledger.specs.Words.{when, first, or-else}
 use Rattle.ledger.specs.Versions.{has-draft, wanted}
 use Rattle.ledger.specs.Calls.{Exchange, drafts, change, refusal}
 use Rattle.ledger.specs.Ledger.{Ledger, ledger, how-many-wanted}
-use Rattle.ledger.specs.Steps.{State, Summary, summary, job-open, shelf-fits, not-held, something-there, row-left, checks, Outcome, Step, Numbers, Run}
+use Rattle.ledger.specs.Steps.{State, Summary, summary, job-open, shelf-fits, not-held, something-there, row-left, checks, Outcome, Numbers, Run}
 use Rattle.ledger.specs.Laws.{but-for-age, asked, refused-earlier, Needs-place, Full-is-full}
 use Rattle.ledger.proofs.Finding.{never, differ, first-append}
-use Rattle.ledger.proofs.Model.{full, met, moved-on, Sound, Agrees}
+use Rattle.ledger.proofs.Model.{full, met, moved-on}
 use Rattle.ledger.proofs.Following.{same-met}
 use Rattle.ledger.proofs.Runs.{model, model-of, sound-model, run-agrees}
 use Rattle.ledger.proofs.Listed.{ledger-of, answered-granted, ledger-is}

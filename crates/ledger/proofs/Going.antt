@@ -3,18 +3,16 @@
 -- at the latest after ageing, since not every place holds a wanted version. Everything here computes, so that sessions can be run.
 use mathlib.Core.Path.{_≡_, refl, sym, ap, subst, _∙_}
 use mathlib.Core.Bool.{Bool, true, false, cond, not, _&&_, _||_}
-use mathlib.Core.Logic.{_⊎_, inl, inr}
 use Prim.Native.Nat.{ℕ, zero, suc, _+_, _<_}
 use native.Mathlib.Omega.{arith}
 use lib.Dec.{eqb, ltb}
 use Rattle.std.specs.shelf.Lists.{List, [], _∷_, _++_, length, getD, set, map, All}
-use Rattle.std.proofs.shelf.Lists.{length-map}
+use Rattle.std.proofs.shelf.Lists.{length-map, length-set}
 use Rattle.std.specs.Options.{isSome}
 use Rattle.std.specs.declared.cmp.Ordering.{Ordering}
 use Rattle.std.specs.declared.option.Option.{Option}
 use Rattle.std.specs.declared.option.Option.the-variants.{Some, None}
 use Rattle.keys.specs.Refusals.{Code, plain}
-use Rattle.ledger.specs.declared.call.TicketId.{TicketId}
 use Rattle.ledger.specs.declared.call.Call.{Call}
 use Rattle.ledger.specs.declared.call.Call.the-variants.{Walk, Basic}
 use Rattle.ledger.specs.declared.call.BasicCall.the-variants.{BeginReport, BeginJob, Read, Look, Put, Remove, Commit, Abort, End, Age}
@@ -29,7 +27,7 @@ use Rattle.ledger.specs.Places.{after, free, in-report, is-free, is-draft-of, 
 use Rattle.ledger.specs.Versions.{draft-at, has-draft}
 use Rattle.ledger.specs.Refusals.{code}
 use Rattle.ledger.specs.Calls.{Exchange, Change, keeps, drafts, commits, aborts, ages, change}
-use Rattle.ledger.specs.Steps.{State, summary, version-in, versions-in, all-wanted, checks, sent-back, answered, control-after, place-settled, place-aborted, place-aged, draft-event, shelved, ready, Takes, Moves, Outcome, Numbers, Run}
+use Rattle.ledger.specs.Steps.{State, summary, version-in, versions-in, all-wanted, checks, sent-back, answered, control-after, place-settled, place-aborted, place-aged, draft-event, shelved, ready, Takes, Moves, Outcome, Step, Numbers, Run}
 use Rattle.ledger.specs.Laws.{Goes-on}
 use Rattle.ledger.proofs.Finding.{never, differ, none-found}
 use Rattle.ledger.proofs.Codes.{refusal-of}
@@ -102,18 +100,42 @@ module _ {K R : Type 0} (order : K → K → Ordering) where
           let c = some-place is-free aged (free-when-aged (s .control .reports) (s .places) h) in
           (c .0, (subst (λ v. c .0 < v) (length-map (s .places) (place-aged (λ f. true) (s .control .reports))) (c .1), c .2))
 
-  -- the places and the shelf after a change
-  abbrev Moved-to : State K R → Change K R → Type 0
-  Moved-to s ch = (ps : List (Place K)) × (rs : List R) × Moves order s ch ps rs
+  -- the places and the shelf after a change, as many as before
+  pub record Moved-to (s : State K R) (ch : Change K R) : Type 0 where
+    pub places : List (Place K)
+    pub shelf : List R
+    pub moves : Moves order s ch places shelf
+    pub lengths : length shelf ≡ length places
+
+  -- a move place by place
+  pub mapped-to : (s : State K R) → length (s .shelf) ≡ length (s .places) → (f : Place K → Place K) → length (s .shelf) ≡ length (map f (s .places))
+  mapped-to s el f = el ∙ sym (length-map (s .places) f)
+
+  -- a draft in a place
+  pub drafted-to : (s : State K R) → length (s .shelf) ≡ length (s .places) → (t : ℕ) (k : K) (d : Option R) (n : ℕ) (p : Place K) → length (shelved d n (s .shelf)) ≡ length (set (ready order s t k) n p)
+  drafted-to s el t k d n p = shelf-stays d ∙ (el ∙ sym (length-set (ready order s t k) n p ∙ places-stay (has-draft order t k (summary s .versions) || any (λ p. is-free (p .state)) (s .places))))
+    where
+      shelf-stays : (d : Option R) → length (shelved d n (s .shelf)) ≡ length (s .shelf)
+      shelf-stays (Some r) = length-set (s .shelf) n r
+      shelf-stays None = refl
+
+      places-stay : (x : Bool) → length (cond x (s .places) (map (place-aged (λ f. true) (s .control .reports)) (s .places))) ≡ length (s .places)
+      places-stay true = refl
+      places-stay false = length-map (s .places) (place-aged (λ f. true) (s .control .reports))
 
   unfoldable pub moves : (s : State K R) → length (s .shelf) ≡ length (s .places) → (ch : Change K R) → ((t : ℕ) (k : K) (d : Option R) → ch ≡ drafts t k d → (not (has-draft order t k (summary s .versions)) && all-wanted (s .control .reports) (s .places)) ≡ false) → Moved-to s ch
-  moves s el keeps room = (s .places, s .shelf, (refl, refl))
+  moves s el keeps room = record { places = s .places; shelf = s .shelf; moves = (refl, refl); lengths = el }
   moves s el (drafts t k d) room =
       let m = takes s t k el (room t k d refl) in
-      (set (ready order s t k) (m .0) (after (getD (ready order s t k) (m .0) free) (draft-event t k d)), shelved d (m .0) (s .shelf), (m .0, m .1, refl, refl))
-  moves s el (commits t) room = (map (place-settled t (s .control .stamp + 1) (λ k. has-draft order t k (summary s .versions))) (s .places), s .shelf, (refl, refl))
-  moves s el (aborts t) room = (map (place-aborted t) (s .places), s .shelf, (refl, refl))
-  moves s el (ages limit) room = (map (place-aged (λ f. ltb f limit) (s .control .reports)) (s .places), s .shelf, (refl, refl))
+      let p = after (getD (ready order s t k) (m .0) free) (draft-event t k d) in
+      record { places = set (ready order s t k) (m .0) p; shelf = shelved d (m .0) (s .shelf); moves = (m .0, m .1, refl, refl); lengths = drafted-to s el t k d (m .0) p }
+  moves s el (commits t) room =
+      let f = place-settled t (s .control .stamp + 1) (λ k. has-draft order t k (summary s .versions)) in
+      record { places = map f (s .places); shelf = s .shelf; moves = (refl, refl); lengths = mapped-to s el f }
+  moves s el (aborts t) room = record { places = map (place-aborted t) (s .places); shelf = s .shelf; moves = (refl, refl); lengths = mapped-to s el (place-aborted t) }
+  moves s el (ages limit) room =
+      let f = place-aged (λ f. ltb f limit) (s .control .reports) in
+      record { places = map f (s .places); shelf = s .shelf; moves = (refl, refl); lengths = mapped-to s el f }
 
   -- a put or remove that passed its checks has a place
   pub room-left : (s : State K R) (c : Call K R) (n : ℕ) → sent-back order (all-wanted (s .control .reports) (s .places)) (summary s) c n ≡ None → (t : ℕ) (k : K) (d : Option R) → change c ≡ drafts t k d → (not (has-draft order t k (summary s .versions)) && all-wanted (s .control .reports) (s .places)) ≡ false
@@ -145,15 +167,26 @@ module _ {K R : Type 0} (order : K → K → Ordering) where
       known : Known (λ c. code (refusal-of c) ≡ c)
       known = record { shelf = refl; ticket = refl; too-many = refl; number = refl; holder = λ t. refl; absent = refl; row = refl; stamp = refl }
 
-  unfoldable pub goes-on : (o : Numbers) (past : List (Exchange K R)) (s : State K R) → length (s .shelf) ≡ length (s .places) → Run order o past s → Goes-on order o past
-  goes-on o past s el r c n = go (sent-back order (all-wanted (s .control .reports) (s .places)) (summary s) c n) refl
+  -- an answer to a call, with the store after it
+  pub record Answered (s : State K R) (c : Call K R) (n : ℕ) : Type 0 where
+    pub answer : Answer K R
+    pub after : State K R
+    pub step : Step order s (record { call = c; shelf = n; answer = answer }) after
+    pub lengths : length (after .shelf) ≡ length (after .places)
+
+  unfoldable pub answers : (s : State K R) → length (s .shelf) ≡ length (s .places) → (c : Call K R) (n : ℕ) → Answered s c n
+  answers s el c n = go (sent-back order (all-wanted (s .control .reports) (s .places)) (summary s) c n) refl
     where
-      go : (x : Option Code) → sent-back order (all-wanted (s .control .reports) (s .places)) (summary s) c n ≡ x → (a : Answer K R) × (s′ : State K R) × Run order o (record { call = c; shelf = n; answer = a } ∷ past) s′
+      go : (x : Option Code) → sent-back order (all-wanted (s .control .reports) (s .places)) (summary s) c n ≡ x → Answered s c n
       go (Some why) e =
+          let a : Answer K R = Refused (refusal-of why) in
           let told = code-of-refusal (all-wanted (s .control .reports) (s .places)) s c n why e in
-          (Refused (refusal-of why), s, (s, r, subst (λ x. Outcome order x s (record { call = c; shelf = n; answer = Refused (refusal-of why) }) s) (sym e) (record { answer = ap Some told; unchanged = refl })))
+          record { answer = a; after = s; step = subst (λ x. Outcome order x s (record { call = c; shelf = n; answer = a }) s) (sym e) (record { answer = ap Some told; unchanged = refl }); lengths = el }
       go None e =
-          let m = moves s el (change c) (room-left s c n e) in
-          let s′ : State K R = record { control = control-after order (summary s) c; places = m .0; shelf = m .1 } in
           let a : Answer K R = answered order (summary s) c in
-          (a, s′, (s, r, subst (λ x. Outcome order x s (record { call = c; shelf = n; answer = a }) s′) (sym e) (record { answer = refl; control = refl; moves = m .2 })))
+          let m = moves s el (change c) (room-left s c n e) in
+          let s′ : State K R = record { control = control-after order (summary s) c; places = m .places; shelf = m .shelf } in
+          record { answer = a; after = s′; step = subst (λ x. Outcome order x s (record { call = c; shelf = n; answer = a }) s′) (sym e) (record { answer = refl; control = refl; moves = m .moves }); lengths = m .lengths }
+
+  pub goes-on : (o : Numbers) (past : List (Exchange K R)) (s : State K R) → length (s .shelf) ≡ length (s .places) → Run order o past s → Goes-on order o past
+  goes-on o past s el r c n = let a = answers s el c n in (a .answer, a .after, (s, r, a .step))

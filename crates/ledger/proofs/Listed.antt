@@ -1,12 +1,11 @@
 -- The ledger of a run is its model: what arguments and answers tell is what the calls determine.
 -- By induction on the run: a granted call changes both alike, a refused one and an age call neither.
-use mathlib.Core.Path.{_≡_, refl, sym, ap, subst, _∙_}
+use mathlib.Core.Path.{_≡_, refl, sym, ap, subst}
 use mathlib.Core.Bool.{Bool, true, false, cond, not, _&&_}
 use Prim.Native.Nat.{ℕ, _+_}
 use lib.Dec.{eqb}
 use Rattle.std.specs.shelf.Lists.{List, [], _∷_, _++_, kept-by, map}
 use Rattle.std.proofs.shelf.Lists.{map-append}
-use Rattle.std.specs.Options.{isSome}
 use Rattle.std.specs.declared.cmp.Ordering.{Ordering}
 use Rattle.std.specs.declared.option.Option.{Option}
 use Rattle.std.specs.declared.option.Option.the-variants.{Some, None}
@@ -15,13 +14,11 @@ use Rattle.keys.specs.Refusals.{Code}
 use Rattle.ledger.specs.declared.call.Call.{Call}
 use Rattle.ledger.specs.declared.call.Call.the-variants.{Walk, Basic}
 use Rattle.ledger.specs.declared.call.BasicCall.the-variants.{BeginReport, BeginJob, Read, Look, Put, Remove, Commit, Abort, End, Age}
-use Rattle.ledger.specs.declared.answer.Answer.{Answer}
 use Rattle.ledger.specs.Versions.{Version, finds-current}
 use Rattle.ledger.specs.Control.{Job, has-key, holding, jobs-but}
 use Rattle.ledger.specs.Calls.{Exchange, change, is-age, refusal, granted}
 use Rattle.ledger.specs.Ledger.{Ledger, noted, ledger}
 use Rattle.ledger.specs.Steps.{State, Summary, answered, Numbers, Run}
-use Rattle.ledger.proofs.Finding.{never}
 use Rattle.ledger.proofs.Model.{met, versions-after, moved-on, next-model}
 use Rattle.ledger.proofs.Runs.{replied, age-is, model-of, model-more, run-answers}
 

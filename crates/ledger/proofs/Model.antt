@@ -7,7 +7,7 @@ use mathlib.Core.Bool.{Bool, true, false, cond, _&&_, _||_}
 use Prim.Native.Nat.{ℕ, _+_, _≤_}
 use native.Mathlib.Omega.{arith}
 use lib.Dec.{eqb, leb, ltb}
-use Rattle.std.specs.shelf.Lists.{List, [], _∷_, _++_, countBy, All, length}
+use Rattle.std.specs.shelf.Lists.{List, [], _∷_, countBy, All, length}
 use Rattle.std.proofs.shelf.Elements.{all-weaker}
 use Rattle.std.proofs.shelf.Sums.{sumBy-append}
 use Rattle.std.proofs.shelf.Tests.{le-leb, le-ltb, and-right}
@@ -19,7 +19,7 @@ use Rattle.ledger.specs.declared.call.Call.{Call}
 use Rattle.ledger.specs.declared.place.Report.{Report}
 use Rattle.ledger.specs.Words.{when, first, or-else, same}
 use Rattle.ledger.specs.Places.{spans, in-report}
-use Rattle.ledger.specs.Versions.{Version, draft, committed, wanted, finished, draft-in, draft-at, current-in, current-at, seen-in, seen-at, drafted, settled-all, without-drafts}
+use Rattle.ledger.specs.Versions.{Version, draft, committed, wanted, draft-in, draft-at, current-in, current-at, seen-in, seen-at, drafted, settled-all, without-drafts}
 use Rattle.ledger.specs.Control.{report-at}
 use Rattle.ledger.specs.Calls.{Change, keeps, drafts, commits, aborts, ages, change}
 use Rattle.ledger.specs.Steps.{State, Summary, summary, versions-in, sent-back, control-after}

@@ -1,10 +1,10 @@
 -- For proofs about stores: what holds of every store that a run reaches, and how what is looked up is found in the places.
 -- A reached store agrees with a sound model, so its own places are sound too: a place that holds what is looked for holds the only one.
-use mathlib.Core.Path.{_≡_, refl, sym, subst, _∙_}
-use mathlib.Core.Bool.{Bool, true, false, cond}
+use mathlib.Core.Path.{_≡_, refl, _∙_}
+use mathlib.Core.Bool.{cond}
 use Prim.Native.Nat.{ℕ, zero, suc, _+_, _≤_}
 use native.Mathlib.Omega.{arith}
-use Rattle.std.specs.shelf.Lists.{List, [], _∷_, _++_, countBy, All, length}
+use Rattle.std.specs.shelf.Lists.{List, [], _∷_, _++_, countBy, length}
 use Rattle.std.specs.shelf.Maps.{nth}
 use Rattle.std.proofs.shelf.Sums.{sumBy-cons, sumBy-append}
 use Rattle.std.specs.declared.cmp.Ordering.{Ordering}

@@ -3,16 +3,16 @@
 -- commit of a job that put or removed it left there. What an open report's stamp sees is what had been left when its ticket was given out.
 -- Each call keeps this: a draft comes in front of the job's earlier ones; a commit makes the job's drafts current and leaves what earlier
 -- stamps see; a report begins at the present stamp, which sees what is current. Tickets are below the next one, so a new one is nobody's.
-use mathlib.Core.Path.{_≡_, refl, sym, ap, subst, _∙_}
+use mathlib.Core.Path.{_≡_, refl, sym, ap, _∙_}
 use mathlib.Core.Bool.{Bool, true, false, cond, not, _&&_, _||_}
 use mathlib.Core.Logic.{_⊎_, inl, inr}
 use Prim.Native.Nat.{ℕ, _+_, _≤_, _<_}
 use native.Mathlib.Omega.{arith}
 use lib.Dec.{eqb}
-use Rattle.std.specs.shelf.Lists.{List, [], _∷_, _++_, kept-by, All, map}
+use Rattle.std.specs.shelf.Lists.{List, [], _∷_, _++_, All}
 use Rattle.std.proofs.shelf.Elements.{all-push, all-kept-by, all-weaker}
-use Rattle.std.proofs.shelf.Tests.{eqb-true, eq-eqb, ne-eqb, not-true, not-false, and-parts, and-from, eqb-false, cond-false}
-use Rattle.std.specs.Options.{isSome, valueOr}
+use Rattle.std.proofs.shelf.Tests.{eqb-true, eq-eqb, ne-eqb, eqb-false}
+use Rattle.std.specs.Options.{isSome}
 use Rattle.std.specs.declared.cmp.Ordering.{Ordering}
 use Rattle.std.specs.declared.option.Option.{Option}
 use Rattle.std.specs.declared.option.Option.the-variants.{Some, None}
@@ -22,17 +22,16 @@ use Rattle.ledger.specs.declared.call.TicketId.{TicketId}
 use Rattle.ledger.specs.declared.call.Call.{Call}
 use Rattle.ledger.specs.declared.call.Call.the-variants.{Walk, Basic}
 use Rattle.ledger.specs.declared.call.BasicCall.the-variants.{BeginReport, BeginJob, Read, Look, Put, Remove, Commit, Abort, End, Age}
-use Rattle.ledger.specs.declared.answer.Answer.{Answer}
 use Rattle.ledger.specs.declared.answer.Answer.the-variants.{Refused, Aged}
 use Rattle.ledger.specs.declared.answer.Refusal.{Refusal}
 use Rattle.ledger.specs.declared.place.Report.{Report}
 use Rattle.ledger.specs.Words.{when, or-else, any, first, same}
-use Rattle.ledger.specs.Versions.{Version, draft, committed, drafted-by, draft-in, draft-at, has-draft, current-in, current-at, seen-in, seen-at, finds-current, drafted, settled, settled-all, without-drafts}
+use Rattle.ledger.specs.Versions.{Version, draft-at, current-at, seen-at, finds-current, drafted, settled-all, without-drafts}
 use Rattle.ledger.specs.Control.{Job, Control, job-at, keys-of, has-key, holding, jobs-but}
 use Rattle.ledger.specs.Calls.{Exchange, change, is-age}
 use Rattle.ledger.specs.Steps.{Summary, job-open, stamp-left, answered}
 use Rattle.ledger.specs.Laws.{before, last-draft, left}
-use Rattle.ledger.proofs.Finding.{never, found, found-when, and-then, first-picked, first-kept, all-of, all-both}
+use Rattle.ledger.proofs.Finding.{never, found, all-both}
 use Rattle.ledger.proofs.Model.{met, moved-on, Sound, current-is-seen}
 use Rattle.ledger.proofs.Lookups.{draft-drafted, current-drafted, seen-drafted, draft-settled, current-settled, seen-settled, draft-aborted, current-aborted, seen-aborted}
 use Rattle.ledger.proofs.Runs.{is-open, is-own}

@@ -1,25 +1,22 @@
 -- What a commit makes of one version, and so of all: where the job drafted, its draft is what is current from the new stamp on;
 -- elsewhere what was current stays; every earlier stamp sees what it saw; and other jobs keep their drafts.
 use mathlib.Core.Path.{_≡_, refl, sym, ap, _∙_}
-use mathlib.Core.Bool.{Bool, true, false, cond, not, _&&_}
-use Prim.Native.Nat.{ℕ, _+_, _<_, _≤_}
+use mathlib.Core.Bool.{Bool, true, false, cond, _&&_}
+use Prim.Native.Nat.{ℕ, _+_, _<_}
 use native.Mathlib.Omega.{arith}
 use lib.Dec.{eqb, leb, ltb}
-use Rattle.std.specs.shelf.Lists.{List, [], _∷_, countBy, All}
-use Rattle.std.proofs.shelf.Elements.{all-weaker}
-use Rattle.std.proofs.shelf.Sums.{sumBy-cons}
+use Rattle.std.specs.shelf.Lists.{[], _∷_, All}
 use Rattle.std.proofs.shelf.Tests.{eqb-true, eqb-false, lt-leb, lt-ltb, cond-true, cond-false}
-use Rattle.std.specs.Options.{isSome, mapped, valueOr}
+use Rattle.std.specs.Options.{mapped}
 use Rattle.std.specs.Orderings.{isEq}
 use Rattle.std.specs.declared.cmp.Ordering.{Ordering}
 use Rattle.std.specs.declared.cmp.Ordering.the-variants.{Less, Equal, Greater}
 use Rattle.std.specs.declared.option.Option.{Option}
 use Rattle.std.specs.declared.option.Option.the-variants.{Some, None}
 use Rattle.keys.specs.Orders.{Total}
-use Rattle.ledger.specs.Words.{when, listed, picked, first, or-else, same}
-use Rattle.ledger.specs.Places.{spans}
-use Rattle.ledger.specs.Versions.{Version, draft, committed, draft-in, draft-at, has-draft, current-in, current-at, seen-in, seen-at, settled, settled-all}
-use Rattle.ledger.proofs.Finding.{never, differ, found, when-off, and-then, first-picked, none-found, all-of, all-none}
+use Rattle.ledger.specs.Words.{when, listed, same}
+use Rattle.ledger.specs.Versions.{Version, draft, committed, draft-in, current-in, seen-in, settled}
+use Rattle.ledger.proofs.Finding.{never, differ, when-off, and-then}
 use Rattle.ledger.proofs.Model.{In-time}
 
 pub same-is : {K : Type 0} (order : K → K → Ordering) → Total order → (a b : K) → same order a b ≡ true → a ≡ b

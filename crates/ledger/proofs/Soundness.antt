@@ -1,13 +1,13 @@
 -- The model stays sound: a job has at most one draft at a key, a stamp sees at most one version of a key, and nothing is later than the stamp.
 -- A filter takes away only. A draft replaces the one that was there. A commit turns at most one draft of a key into its current
 -- version and finishes the one before; earlier stamps see what they saw, and the new one sees just what is current.
-use mathlib.Core.Path.{_≡_, refl, sym, ap, _∙_}
-use mathlib.Core.Bool.{Bool, true, false, cond, not, _&&_}
+use mathlib.Core.Path.{_≡_, refl, sym, _∙_}
+use mathlib.Core.Bool.{Bool, true, false, cond, not}
 use mathlib.Core.Logic.{_⊎_, inl, inr}
 use Prim.Native.Nat.{ℕ, _+_, _≤_, _<_}
 use native.Mathlib.Omega.{arith}
 use lib.Dec.{eqb}
-use Rattle.std.specs.shelf.Lists.{List, [], _∷_, kept-by, countBy, All}
+use Rattle.std.specs.shelf.Lists.{List, _∷_, kept-by, countBy, All}
 use Rattle.std.proofs.shelf.Elements.{all-kept-by, all-weaker, kept-by-passes}
 use Rattle.std.proofs.shelf.Sums.{sumBy-cons}
 use Rattle.std.proofs.shelf.Tests.{eqb-true, cases-lt, not-true}

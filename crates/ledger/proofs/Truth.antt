@@ -1,13 +1,13 @@
 -- (a), and what look and walk answer: the answers of every run, said of the list of calls alone.
 -- A run answers as its model does, and the model remembers the past; so what a report sees, what a job finds and which keys a report sees are what the list says.
 use mathlib.Core.Path.{_≡_, refl, sym, ap, subst, _∙_}
-use mathlib.Core.Bool.{Bool, true, false, cond, not, _&&_}
-use mathlib.Core.Logic.{_⊎_, inl, inr}
+use mathlib.Core.Bool.{Bool, true, false, _&&_}
+use mathlib.Core.Logic.{inl, inr}
 use Prim.Native.Nat.{ℕ}
 use lib.Dec.{eqb}
 use Rattle.std.specs.shelf.Lists.{List, [], _∷_, _++_, All}
 use Rattle.std.proofs.shelf.Tests.{eqb-true, and-parts, and-from}
-use Rattle.std.specs.Options.{isSome, valueOr}
+use Rattle.std.specs.Options.{isSome}
 use Rattle.std.specs.Orderings.{isEq}
 use Rattle.std.specs.declared.cmp.Ordering.{Ordering}
 use Rattle.std.specs.declared.option.Option.{Option}
@@ -21,9 +21,9 @@ use Rattle.ledger.specs.declared.call.BasicCall.the-variants.{Read, Look, Age}
 use Rattle.ledger.specs.declared.answer.Answer.{Answer}
 use Rattle.ledger.specs.declared.answer.Answer.the-variants.{Record, Next}
 use Rattle.ledger.specs.declared.place.Report.{Report}
-use Rattle.ledger.specs.Words.{when, or-else, listed, picked, first, same, less, beyond, least}
+use Rattle.ledger.specs.Words.{when, or-else, listed, first, same, less, beyond, least}
 use Rattle.ledger.specs.Places.{spans}
-use Rattle.ledger.specs.Versions.{Version, draft, committed, looked, seen-in, seen-at, key-seen-in, keys-seen}
+use Rattle.ledger.specs.Versions.{Version, draft, committed, looked, seen-in, seen-at, keys-seen}
 use Rattle.ledger.specs.Control.{report-at, stamp-of}
 use Rattle.ledger.specs.Calls.{Exchange, change, is-age, refusal}
 use Rattle.ledger.specs.Steps.{State, Summary, report-open, shelf-fits, not-held, row-left-to-look, sight, answered, Step, Numbers, Run}
@@ -34,7 +34,7 @@ use Rattle.ledger.proofs.Leasts.{In, all-in, least-there}
 use Rattle.ledger.proofs.Model.{met, moved-on, next-model}
 use Rattle.ledger.proofs.Settling.{same-is}
 use Rattle.ledger.proofs.Runs.{is-open, is-own, replied, age-is, model-of, model-more, sound-model, run-answers}
-use Rattle.ledger.proofs.Remembering.{Sees, Remembers, job-is-open, remembers, remembers-refused, remembers-age}
+use Rattle.ledger.proofs.Remembering.{Remembers, job-is-open, remembers, remembers-refused, remembers-age}
 
 -- the open report with the running number
 at-report : (P : ℕ → ℕ → Type 0) (t st : ℕ) (rs : List Report) → All (λ r. P (r .ticket) (r .stamp)) rs → report-at t rs ≡ Some st → P t st

@@ -1,5 +1,5 @@
 -- The law of runs from its parts: what is true of the newest call of every run is true of each call of a run, since what came before is a run too.
-use mathlib.Core.Path.{_≡_, sym, _∙_}
+use mathlib.Core.Path.{sym, _∙_}
 use Rattle.std.specs.shelf.Lists.{List, [], _∷_}
 use Rattle.std.specs.declared.cmp.Ordering.{Ordering}
 use Rattle.keys.specs.Orders.{Total}

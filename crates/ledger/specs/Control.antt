@@ -18,6 +18,7 @@ pub record Job (K : Type 0) : Type 0 where
   pub ticket : ℕ
   pub keys : List K
 
+-- the store's number, the stamp of its last commit, the next running number, and what is open
 pub record Control (K : Type 0) : Type 0 where
   pub store : ℕ
   pub stamp : ℕ
@@ -25,9 +26,11 @@ pub record Control (K : Type 0) : Type 0 where
   pub reports : List Report
   pub jobs : List (Job K)
 
+-- the control state with other reports
 abbrev pub with-reports : {K : Type 0} → Control K → List Report → Control K
 with-reports c reports = record { store = c .store; stamp = c .stamp; next = c .next; reports = reports; jobs = c .jobs }
 
+-- the control state with other jobs
 abbrev pub with-jobs : {K : Type 0} → Control K → List (Job K) → Control K
 with-jobs c jobs = record { store = c .store; stamp = c .stamp; next = c .next; reports = c .reports; jobs = jobs }
 

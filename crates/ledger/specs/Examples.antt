@@ -1,4 +1,4 @@
--- Worked examples of the definitions, as one statement.
+-- Worked examples of the definitions, as one statement: spans, ageing, drafts of one job, and whole sessions.
 use mathlib.Core.Bool.{true, false}
 use mathlib.Core.Path.{_≡_}
 use Prim.Native.Nat.{ℕ}
@@ -10,8 +10,7 @@ use Rattle.ledger.specs.declared.call.TicketId.{TicketId}
 use Rattle.ledger.specs.declared.call.Call.the-variants.{Basic}
 use Rattle.ledger.specs.declared.call.BasicCall.the-variants.{Put, Remove, Commit}
 use Rattle.ledger.specs.declared.answer.Answer.the-variants.{Done, Stamp}
-use Rattle.ledger.specs.declared.place.Place.{Place}
-use Rattle.ledger.specs.declared.place.PlaceState.the-variants.{Unstamped, Current, Superseded}
+use Rattle.ledger.specs.declared.place.PlaceState.the-variants.{Current, Superseded}
 use Rattle.ledger.specs.declared.place.PlaceEvent.the-variants as event
 use Rattle.ledger.specs.Places.{after, free, spans}
 use Rattle.ledger.specs.Versions.{current-at}
@@ -19,6 +18,7 @@ use Rattle.ledger.specs.Calls.{Exchange}
 use Rattle.ledger.specs.Ledger.{ledger}
 use Rattle.ledger.specs.Steps.{place-aged}
 use Rattle.ledger.specs.Laws.{left}
+use Rattle.ledger.specs.Sessions.{Sessions}
 
 module _ (K R : Type 0) (order : K → K → Ordering) where
   -- a granted remove, put and commit of one job, the newest first
@@ -40,3 +40,5 @@ module _ (K R : Type 0) (order : K → K → Ordering) where
     pub leaves-record : (job : TicketId) (k : K) (r : R) (stamp : ℕ) (past : List (Exchange K R)) → left order k (remove-then-put job k r stamp past) ≡ Some r
     pub lists-record : (job : TicketId) (k : K) (r : R) (stamp first-stamp : ℕ) → current-at order k (ledger order first-stamp (remove-then-put job k r stamp []) .versions) ≡ Some r
     pub keeps-place : (k : K) (job stamp : ℕ) → after (after (after free (event.Remove k job)) (event.Put k job)) (event.Commit stamp) ≡ record { state = Current k stamp }
+    -- sessions, call by call
+    pub sessions : Sessions

@@ -16,6 +16,7 @@ use Rattle.ledger.specs.Versions.{Version, wanted, drafted, settled-all, witho
 use Rattle.ledger.specs.Control.{reports-but}
 use Rattle.ledger.specs.Calls.{Exchange, granted, given}
 
+-- the stamp, what is open, and every draft and version, listed for ever
 pub record Ledger (K R : Type 0) : Type 0 where
   pub stamp : ℕ
   pub reports : List Report
@@ -27,12 +28,15 @@ pub record Ledger (K R : Type 0) : Type 0 where
 abbrev pub how-many-wanted : {K R : Type 0} → Ledger K R → ℕ
 how-many-wanted l = countBy (wanted (l .reports)) (l .versions)
 
+-- the ledger with other reports
 abbrev pub set-reports : {K R : Type 0} → Ledger K R → List Report → Ledger K R
 set-reports l reports = record { stamp = l .stamp; reports = reports; jobs = l .jobs; versions = l .versions }
 
+-- the ledger with other jobs
 abbrev pub set-jobs : {K R : Type 0} → Ledger K R → List ℕ → Ledger K R
 set-jobs l jobs = record { stamp = l .stamp; reports = l .reports; jobs = jobs; versions = l .versions }
 
+-- the ledger with other versions
 abbrev pub set-versions : {K R : Type 0} → Ledger K R → List (Version K R) → Ledger K R
 set-versions l versions = record { stamp = l .stamp; reports = l .reports; jobs = l .jobs; versions = versions }
 

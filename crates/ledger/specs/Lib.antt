@@ -6,6 +6,7 @@ pub mod Ledger
 pub mod Limits
 pub mod Places
 pub mod Refusals
+pub mod Sessions
 pub mod Steps
 pub mod Versions
 pub mod Words

@@ -1,6 +1,6 @@
 -- What a place of a store holds, what each event makes of it, and the tests by which calls pick places.
 -- The steps of the calls move places by `after` alone, and so does the code.
-use mathlib.Core.Bool.{Bool, true, false, not, _&&_}
+use mathlib.Core.Bool.{Bool, true, false, _&&_}
 use Prim.Native.Nat.{ℕ}
 use lib.Dec.{eqb, leb, ltb}
 use Rattle.std.specs.shelf.Lists.{List}

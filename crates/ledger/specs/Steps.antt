@@ -5,7 +5,7 @@ use mathlib.Core.Bool.{Bool, true, cond, not, _&&_, _||_}
 use mathlib.Core.Path.{_≡_}
 use Prim.Native.Nat.{ℕ, _+_, _<_}
 use lib.Dec.{eqb, leb, ltb}
-use Rattle.std.specs.shelf.Lists.{List, [], _∷_, _++_, length, getD, set, replicate, map, joined, countBy}
+use Rattle.std.specs.shelf.Lists.{List, [], _∷_, _++_, length, getD, set, replicate, map, countBy}
 use Rattle.std.specs.Options.{isSome, valueOr}
 use Rattle.std.specs.declared.cmp.Ordering.{Ordering}
 use Rattle.std.specs.declared.option.Option.{Option}
@@ -27,9 +27,10 @@ use Rattle.ledger.specs.Limits.{max-reports, max-jobs, last-stamp, last-ticket
 use Rattle.ledger.specs.Words.{when, listed, first, any, every, least}
 use Rattle.ledger.specs.Places.{after, free, is-free, is-draft-of, is-finished, is-wanted, is-settled-by, carries}
 use Rattle.ledger.specs.Versions.{Version, draft, committed, wanted, finished, has-draft, looked, finds-current, seen-at, keys-seen}
-use Rattle.ledger.specs.Control.{Job, Control, stamped, next-ticket, stamp-of, keys-of, report-opened, job-opened, report-closed, job-closed, held-if, other-holder, row-full}
+use Rattle.ledger.specs.Control.{Control, stamped, next-ticket, stamp-of, keys-of, report-opened, job-opened, report-closed, job-closed, held-if, other-holder, row-full}
 use Rattle.ledger.specs.Calls.{Exchange, Change, keeps, drafts, commits, aborts, ages, change, refusal}
 
+-- a store: its control state, its places and its shelf
 pub record State (K R : Type 0) : Type 0 where
   pub control : Control K
   pub places : List (Place K)
@@ -56,6 +57,7 @@ versions-in [] shelf = []
 versions-in (p ∷ places) [] = []
 versions-in (p ∷ places) (r ∷ shelf) = listed (version-in (p .state) r) ++ versions-in places shelf
 
+-- what a store's places come to, whichever place holds what
 abbrev pub summary : {K R : Type 0} → State K R → Summary K R
 summary s = record { control = s .control; versions = versions-in (s .places) (s .shelf); places = length (s .places) }
 
@@ -77,10 +79,11 @@ module _ {K R : Type 0} (order : K → K → Ordering) where
   abbrev pub number-left : Summary K R → Option Code
   number-left b = when (ltb last-ticket (b .control .next)) (plain 6)
 
-  -- 4: it is not an open ticket of this store and of the kind that the call takes
+  -- 4: it is not an open report's ticket of this store
   abbrev pub report-open : Summary K R → TicketId → Option Code
   report-open b t = when (not (isSome (stamp-of (b .control) t))) (plain 4)
 
+  -- 4: it is not an open job's ticket of this store
   abbrev pub job-open : Summary K R → TicketId → Option Code
   job-open b t = when (not (isSome (keys-of (b .control) t))) (plain 4)
 
@@ -217,6 +220,7 @@ module _ {K R : Type 0} (order : K → K → Ordering) where
     pub answer : refusal (e .answer) ≡ Some why
     pub unchanged : s′ ≡ s
 
+  -- what a call comes to: it meets no refusal and is granted, or it meets one and is sent back
   abbrev pub Outcome : Option Code → State K R → Exchange K R → State K R → Type 0
   Outcome None s e s′ = Granted s e s′
   Outcome (Some why) s e s′ = Sent-back why s e s′

@@ -12,6 +12,7 @@ use Rattle.ledger.specs.declared.place.Report.{Report}
 use Rattle.ledger.specs.Words.{when, or-else, first, picked, same, beyond}
 use Rattle.ledger.specs.Places.{spans, in-report}
 
+-- what a place can hold of a key
 pub data Version (K R : Type 0) : Type 0 where
   -- what an open job wrote at a key: a record, or none where it removed
   draft : ℕ → K → Option R → Version K R
@@ -41,6 +42,7 @@ module _ {K R : Type 0} (order : K → K → Ordering) where
   draft-in t k (draft j q d) = when (eqb j t && same order q k) d
   draft-in t k (committed q r b f) = None
 
+  -- the job's draft at the key, among some versions
   abbrev pub draft-at : ℕ → K → List (Version K R) → Option (Option R)
   draft-at t k = first (draft-in t k)
 
@@ -54,6 +56,7 @@ module _ {K R : Type 0} (order : K → K → Ordering) where
   current-in k (committed q r b None) = when (same order q k) r
   current-in k (committed q r b (Some f)) = None
 
+  -- the key's current record, among some versions
   abbrev pub current-at : K → List (Version K R) → Option R
   current-at k = first (current-in k)
 
@@ -62,6 +65,7 @@ module _ {K R : Type 0} (order : K → K → Ordering) where
   seen-in s k (draft j q d) = None
   seen-in s k (committed q r b f) = when (same order q k && spans b f s) r
 
+  -- what a report with the stamp sees at the key, among some versions
   abbrev pub seen-at : ℕ → K → List (Version K R) → Option R
   seen-at s k = first (seen-in s k)
 
