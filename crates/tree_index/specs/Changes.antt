@@ -1,4 +1,5 @@
 -- What inserting a node and removing one make of the tree at a link.
+-- Said of every tree that fits there, so that the code carries no tree along and a recursive call is used at a part.
 use Prim.Native.Nat.{ℕ, _≤_}
 use lib.ListN.{length}
 use mathlib.Core.List.{List}

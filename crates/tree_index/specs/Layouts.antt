@@ -1,4 +1,5 @@
 -- How a tree lies in nodes, and when nodes with a root are sound.
+-- Soundness is the premise of what the index promises: `new` and `emptied` give it, and every call keeps it.
 use Prim.Native.Nat.{ℕ, _≤_}
 use lib.ListN.{length}
 use mathlib.Core.List.{List}

@@ -1,4 +1,5 @@
 -- Sides, links and the two links of a node.
+-- A link holds the place that it leads to; past the nodes it leads nowhere.
 use Prim.Native.Nat.{ℕ}
 use lib.Dec.{ltb}
 use mathlib.Core.Bool.{cond}
@@ -15,7 +16,7 @@ use Rattle.std.specs.declared.option.Option.the-variants.{Some, None}
 abbrev pub max-keys : ℕ
 max-keys = 512
 
--- the side on which a key lies that stands so to a node's key; none where it is that key
+-- on which side of a node a key belongs, by how it compares with the node's key; none where they are equal
 abbrev pub side-of : Ordering → Option Side
 side-of Less = Some Left
 side-of Equal = None

@@ -1,4 +1,5 @@
 -- Nodes: the slots that they stand for, what a link leads to, and what a write leaves.
+-- Nothing here speaks of trees: these are the words for single reads and writes, true on any memory.
 use Prim.Native.Nat.{ℕ, zero, suc}
 use lib.ListN.{take}
 use mathlib.Core.List.{List, [], _∷_, map}

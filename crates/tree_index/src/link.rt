@@ -15,7 +15,7 @@ pub enum Side {
 }
 
 impl Side {
-    // The side of a node on which a key lies that stands so to the node's key; none where it is that key.
+    // On which side of a node a key belongs, by how it compares with the node's key; none where they are equal.
     pub fn of(ordering: Ordering) -> Option<Side>
         ensures answer { λ r. ⌜ r ≡ side-of ordering ⌝ }
     {
@@ -27,6 +27,7 @@ impl Side {
     }
 }
 
+// Leads to the node of a number, or nowhere.
 #[derive(Clone, Copy)]
 pub struct Link {
     place: u16,
@@ -57,6 +58,7 @@ impl Link {
     }
 }
 
+// The links of a node to its children.
 #[derive(Clone, Copy)]
 pub struct Links {
     pub left: Link,
@@ -70,6 +72,7 @@ impl Links {
         right: Link::NOWHERE,
     };
 
+    // The link on the side.
     pub fn child(self, side: Side) -> Link
         ensures answer { λ r. ⌜ r ≡ child self side ⌝ }
     {

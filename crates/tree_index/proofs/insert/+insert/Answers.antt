@@ -1,3 +1,4 @@
+-- Each way out of a turn of `insert`: no node there, no way left, the key is there already, or the part on its side changed.
 use Prim.Native.Nat.{ℕ}
 use Rattle.std.specs.declared.option.Option.the-variants.{Some}
 use Rattle.tree_index.proofs.Layouts.{too-deep}

@@ -1,3 +1,4 @@
+-- The ends of `find` and the turn of its loop, one lemma each.
 use mathlib.Core.Logic.{inl, inr}
 use Rattle.tree_index.proofs.Lookups.{find-ends, find-finds, find-turns}
 use Rattle.tree_index.proofs.Soundness.{sound-apart}

@@ -1,3 +1,4 @@
+-- The ends of `least_beyond` and the two turns of its loop, one lemma each.
 use mathlib.Core.Logic.{inl, inr}
 use mathlib.Core.Path.{refl}
 use Rattle.std.proofs.shelf.Tests.{both-ways}

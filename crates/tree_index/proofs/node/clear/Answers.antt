@@ -1,3 +1,4 @@
+-- A turn clears one node more; at the end all are alike, so their tree is empty and sound.
 use borrow.Author.Count.{below-more}
 use lib.ListN.{length, replicate}
 use mathlib.Core.Path.{_≡_, ap, _∙_}

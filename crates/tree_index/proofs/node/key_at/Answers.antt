@@ -1,3 +1,4 @@
+-- A place that the tree uses has its slot there, and another has none.
 use native.Mathlib.Omega.{arith}
 use Rattle.tree_index.proofs.Nodes.{slot-past, slot-there}
 use Rattle.tree_index.proofs.node.key_at.Needs as need

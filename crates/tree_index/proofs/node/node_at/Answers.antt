@@ -1,3 +1,4 @@
+-- The link leads past the nodes, to a node without a key, or to one with a key.
 use Prim.Native.Nat.{_<_}
 use lib.ListN.{length}
 use mathlib.Core.Path.{refl, sym, ap, _∙_}

@@ -1,3 +1,4 @@
+-- A write past the nodes writes nothing.
 use mathlib.Core.Path.{sym}
 use Rattle.std.proofs.shelf.Lists.{set-past}
 use Rattle.tree_index.proofs.node.put.Needs as need

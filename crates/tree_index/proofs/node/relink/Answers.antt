@@ -1,3 +1,4 @@
+-- The write is `relinked` at the place, and nothing past the nodes.
 use Rattle.tree_index.proofs.Nodes.{relinked-is-set, relinked-past}
 use Rattle.tree_index.proofs.node.relink.Needs as need
 

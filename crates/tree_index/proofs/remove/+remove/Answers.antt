@@ -1,3 +1,4 @@
+-- Each way out of a turn of `remove`: no node there, no way left, the key is this node's, or the part on its side changed.
 use Rattle.std.specs.declared.option.Option.the-variants.{None}
 use Rattle.tree_index.proofs.Layouts.{too-deep}
 use Rattle.tree_index.proofs.Steps.{removes-here, removes-leaf, removes-side}

@@ -1,3 +1,4 @@
+-- Each way out of a turn of `take_min`: no node there, no way left, nothing on the left, or the least node came from the left.
 use mathlib.Core.Path.{refl}
 use Rattle.std.specs.declared.option.Option.the-variants.{None}
 use Rattle.tree_index.proofs.Layouts.{at-leaf, too-deep}

@@ -1,3 +1,4 @@
+-- The right part is empty, or its least node comes up.
 use Rattle.tree_index.proofs.Steps.{joins-least, joins-left}
 use Rattle.tree_index.proofs.remove.join.Needs as need
 

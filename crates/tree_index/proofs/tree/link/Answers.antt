@@ -1,3 +1,4 @@
+-- The node is put, then inserted: what that leaves of the slots, and that it is sound.
 use Rattle.tree_index.proofs.Soundness.{added-slots, added-sound}
 use Rattle.tree_index.proofs.tree.link.Needs as need
 

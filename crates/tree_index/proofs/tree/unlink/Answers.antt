@@ -1,3 +1,4 @@
+-- The node is removed, then freed: what that leaves of the slots, that it is sound, and no higher.
 use Rattle.tree_index.proofs.Soundness.{discarded-slots, discarded-sound}
 use Rattle.tree_index.proofs.tree.unlink.Needs as need
 

@@ -1,3 +1,4 @@
+-- The nodes are cut to those that a tree uses, then cleared.
 use lib.ListN.{length, take}
 use mathlib.Core.Path.{_≡_, ap, _∙_}
 use native.Mathlib.Omega.{arith}

@@ -1,3 +1,4 @@
+-- As many slots as nodes that the tree uses.
 use native.Mathlib.Omega.{arith}
 use Rattle.tree_index.proofs.Nodes.{length-slots}
 use Rattle.tree_index.proofs.tree.SearchTreeIndex.capacity.Needs as need
