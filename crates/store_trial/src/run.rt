@@ -2,7 +2,7 @@
 use crate::script::Script;
 use crate::script::put_apart;
 use crate::told::Told;
-use crate::told::told;
+use crate::told::tell;
 use engine::Store;
 use index::Index;
 use keys::CodeKey;
@@ -42,9 +42,9 @@ pub fn answers<I: Index<Key = CodeKey>>(
         let call = script.call();
         let answer = if i % SHORT_SHELF == 0 && shelf.len() > 0 {
             let short = shelf.len() - 1;
-            told(ask(store, &mut shelf[0..short], call))
+            tell(ask(store, &mut shelf[0..short], call))
         } else {
-            told(ask(store, shelf, call))
+            tell(ask(store, shelf, call))
         };
         script.note(call, answer);
         list.push(answer)?;
@@ -59,14 +59,14 @@ pub fn row_answers<I: Index<Key = CodeKey>>(
     shelf: &mut [u32],
 ) -> Result<Vec<Told>, AllocError> {
     let mut list = Vec::new(heap);
-    let begun = told(ask(store, shelf, BasicCall::BeginJob));
+    let begun = tell(ask(store, shelf, BasicCall::BeginJob));
     list.push(begun)?;
     let job = match begun {
         Told::Job { ticket } => ticket,
         _ => 0,
     };
     for code in 0..ROW_PUTS {
-        list.push(told(ask(store, shelf, put_apart(job, code))))?;
+        list.push(tell(ask(store, shelf, put_apart(job, code))))?;
     }
     Ok(list)
 }

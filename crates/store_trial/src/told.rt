@@ -19,7 +19,7 @@ pub enum Told {
 }
 
 // What an answer tells.
-pub fn told(answer: Answer<CodeKey, u32>) -> Told {
+pub fn tell(answer: Answer<CodeKey, u32>) -> Told {
     match answer {
         Answer::Report { ticket, stamp } => Told::Report {
             ticket: ticket.number,
