@@ -120,10 +120,15 @@ fn compare(
     Ok(())
 }
 
-fn main(rt: LibcRuntime) -> Result<(), AnyError> {
-    let mut nodes: [Node<CodeKey>; PLACES] = [Node::new(); PLACES];
+// Every setting, in the same nodes.
+fn compare_all(rt: &LibcRuntime, nodes: &mut [Node<CodeKey>]) -> Result<(), AnyError> {
     for setting in SETTINGS.iter() {
-        rt.report(compare(&rt, &mut nodes, *setting))?;
+        compare(rt, nodes, *setting)?;
     }
     Ok(())
+}
+
+fn main(rt: LibcRuntime) -> Result<(), AnyError> {
+    let mut nodes: [Node<CodeKey>; PLACES] = [Node::new(); PLACES];
+    rt.report(compare_all(&rt, &mut nodes))
 }
