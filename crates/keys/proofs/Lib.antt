@@ -1,2 +1,1 @@
-pub mod SameVehicle
 pub mod VehicleDigits

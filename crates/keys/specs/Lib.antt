@@ -1,4 +1,5 @@
 pub mod Orders
 pub mod Refusals
 pub mod VehicleDigits
+pub mod VehicleOrder
 pub mod Vehicles

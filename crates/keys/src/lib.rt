@@ -1,9 +1,12 @@
 // Key kinds: what the store asks of one, and the two of the garage tablet.
 // Stands on nothing but the standard library; every other crate stands on it.
+#![tactic(auto)]
+
 mod code;
 mod key;
 mod spelling;
 mod vehicle;
+mod vehicle_order;
 
 pub use code::CodeKey;
 pub use key::Key;

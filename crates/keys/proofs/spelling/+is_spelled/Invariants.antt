@@ -1,5 +1,5 @@
 use Rattle.keys.proofs.spelling.+is_spelled.Given as goal
 
 -- the characters that are left
-abbrev pub decreases-is-spelled : goal.decreases-is-spelled
-decreases-is-spelled l = l.characters
+abbrev pub decreases-is_spelled : goal.decreases-is_spelled
+decreases-is_spelled l = l.characters
