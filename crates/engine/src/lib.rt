@@ -1,5 +1,7 @@
 // The store: an index over the plain inner table, opening and every call, each proved against what it does on the table,
 // and the index kept in agreement with the places. Stands on no index in particular.
+#![tactic(auto)]
+
 mod age;
 mod calls;
 mod commit;

@@ -1,5 +1,7 @@
 // Drives the bucket index and the tree index through the same calls as a plain list of pairs, and prints what each answered.
 // Every answer that differs from the list's is counted, and the first one is told.
+#![tactic(auto)]
+
 mod call;
 mod plain;
 mod script;

@@ -1,5 +1,7 @@
 // The calls of a store, what it answers and refuses, what a place can hold, and the law of every run of calls.
 // Stands on the key kinds; the store's code and the console's lines use these very types.
+#![tactic(auto)]
+
 mod answer;
 mod call;
 mod law;

@@ -1,5 +1,7 @@
 // The console's language: command lines, answer lines, and an input cut into its lines.
 // Stands on the texts of keys and records, on the page, and on the answers of a store.
+#![tactic(auto)]
+
 mod answer;
 mod command;
 mod echo;

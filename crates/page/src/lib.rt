@@ -1,5 +1,7 @@
 // The page: bytes of the caller's, filled line by line, each line whole or not at all.
 // Stands on the texts of keys and records. Which lines there are is the business of the crates above.
+#![tactic(auto)]
+
 mod line;
 mod mark;
 mod page;

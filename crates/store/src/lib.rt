@@ -1,5 +1,7 @@
 // The public face of the store: opening, and every call as a value with its answer, under the law of runs.
 // Stands on the engine, which is held to the table, and on the bridge from the table to the ledger.
+#![tactic(auto)]
+
 mod answers;
 mod asking;
 mod example;

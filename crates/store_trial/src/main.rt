@@ -1,5 +1,7 @@
 // Puts the same calls to a store over the bucket index and to one over the tree index, with age calls sprinkled differently,
 // and prints how often each kind of answer came, and how many answers differ: none, though places, indexes and ageing do.
+#![tactic(auto)]
+
 mod run;
 mod script;
 mod tally;

@@ -1,5 +1,7 @@
 // The plain inner table of a store: places, open reports and the rows of open jobs.
 // Stands on the key kinds and on the types of the ledger; knows nothing of the index, which the store keeps beside it.
+#![tactic(auto)]
+
 mod age;
 mod begin;
 mod checks;

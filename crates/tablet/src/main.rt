@@ -1,5 +1,7 @@
 // The console program: standard input to standard output, over a page.
 // For now it writes each line back as it was understood, or `no 12`.
+#![tactic(auto)]
+
 use lines::{MAX_INPUT, echo_input};
 use page::Page;
 use std::io;

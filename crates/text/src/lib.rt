@@ -1,5 +1,7 @@
 // Texts of codes, keys, decimal numbers and records: to values and back.
 // Stands on the key kinds. A text that is not that of a value in its range is refused with 12.
+#![tactic(auto)]
+
 mod code;
 mod coolant;
 mod decimal;

@@ -1,5 +1,7 @@
 // Tries the texts of keys, codes, temperatures and records on both sides of every range.
 // Each line has a text, the value that it reads as and the text that is written of this value; or the number of the refusal.
+#![tactic(auto)]
+
 use keys::{CodeKey, VehicleKey};
 use std::io;
 use std::str::from_utf8;

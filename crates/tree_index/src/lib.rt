@@ -1,5 +1,7 @@
 // SearchTree: an ordered index for any key kind, in nodes that the caller lends.
 // Stands on the key kinds and on what an index is; nothing of the store depends on it.
+#![tactic(auto)]
+
 mod insert;
 mod link;
 mod lookup;

@@ -4,7 +4,7 @@ use Rattle.std.proofs.lemmas.List.{get_or_read}
 use Rattle.table.specs.Views.{at}
 use Rattle.engine.proofs.Agreeing.{ListedTo, listed_none, listed_free, listed_more, listed_all}
 use Rattle.engine.proofs.turn.list_keys.Goals as goal
-use Rattle.engine.proofs.turn.list_keys.Goals.{in-Some, in-default}
+use Rattle.engine.proofs.turn.list_keys.Goals.{in-Some, in_default}
 
 pub loop-n-init : goal.loop-n-init
 loop-n-init g c = λ lost s a. (s, listed_none lost (g.I.Index.slots c.args.index.now) c.args.places.now a)
@@ -21,10 +21,10 @@ loop-n-preserved g c = λ lost s a.
             subst (λ slots. ListedTo (c.loop-n.n + 1) slots c.args.places.now) (sym (w.add.ensures.after was.0))
                 (listed_more (g.I.Index.slots c.loop-n.index) c.args.places.now c.loop-n.n was.1 g.Key.Key.order g.met.Key.Key.total w.in-Some.key (sym key ∙ w.in-Some.is)),
           )
-      | in-default w ↦
+      | in_default w ↦
           subst (λ i. g.I.Index.sound i × ListedTo (c.loop-n.n + 1) (g.I.Index.slots i) c.args.places.now) (sym w.index-is) (
             was.0,
-            listed_free (g.I.Index.slots c.loop-n.index) c.args.places.now c.loop-n.n was.1 (sym key ∙ w.in-default.is),
+            listed_free (g.I.Index.slots c.loop-n.index) c.args.places.now c.loop-n.n was.1 (sym key ∙ w.in_default.is),
           )
     ]
 

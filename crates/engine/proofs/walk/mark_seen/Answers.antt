@@ -18,14 +18,14 @@ found_by {K} {P} {Q} o o' e f h = subst (λ x. IfSome x (λ _. Q)) e (go o h)
 
 pub loop-place-preserved : goal.loop-place-preserved
 loop-place-preserved g c = (
-  ap length c.mark.ensures.after ∙ (kept_length c.number-of-number.result c.loop-place.marks ∙ c.loop-place.invariant.0),
+  ap length c.mark.ensures.after ∙ (kept_length c.number_of-number.result c.loop-place.marks ∙ c.loop-place.invariant.0),
   λ s.
       let slots = g.I.Index.slots c.args.index.now in
       let p = c.place-item.result in
-      let number : c.number-of-number.result ≡ number_at g.Key.Key.order slots (seen_key c.args.stamp p.state) =
-      c.number-of-number.ensures.answer s ∙ ap (number_at g.Key.Key.order slots) c.seen-key-key.ensures.answer in
+      let number : c.number_of-number.result ≡ number_at g.Key.Key.order slots (seen_key c.args.stamp p.state) =
+      c.number_of-number.ensures.answer s ∙ ap (number_at g.Key.Key.order slots) c.seen_key-key.ensures.answer in
       let apart : IfSome (seen_key c.args.stamp c.place-item.result.state) (λ _. Apart (g.I.Index.slots c.args.index.now)) =
-      found_by c.seen-key-key.result (seen_key c.args.stamp p.state) c.seen-key-key.ensures.answer (λ f. f s) c.number-of-number.ensures.apart in
+      found_by c.seen_key-key.result (seen_key c.args.stamp p.state) c.seen_key-key.ensures.answer (λ f. f s) c.number_of-number.ensures.apart in
       subst (Marks g.Key.Key.order slots (take (c.loop-place.place-index + 1) c.args.places.now) c.args.stamp) (sym (c.mark.ensures.after ∙ ap (λ o. marked o c.loop-place.marks) number))
       (marks_more g.Key.Key.order g.met.Key.Key.total slots c.args.stamp c.args.places.now c.loop-place.place-index p c.loop-place.marks c.loop-place-test.true c.place-item.is apart (c.loop-place.invariant.1 s)),
 )

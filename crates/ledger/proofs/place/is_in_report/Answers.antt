@@ -9,15 +9,15 @@ use Rattle.ledger.proofs.place.is_in_report.Goals as goal
 none : Report
 none = record { ticket = 0; stamp = 0 }
 
-pub returns-then-span-holds : goal.returns-then-span-holds
+pub returns-then-span_holds : goal.returns-then-span_holds
 unfolding none
-returns-then-span-holds c =
-    record { answer = sym (lies_here c.args.reports.now c.loop-report.report-index none c.args.begin c.args.finish c.loop-report-test.true (sym c.if-span-holds.ensures.answer)) ∙ c.loop-report.invariant }
+returns-then-span_holds c =
+    record { answer = sym (lies_here c.args.reports.now c.loop-report.report-index none c.args.begin c.args.finish c.loop-report-test.true (sym c.if-span_holds.ensures.answer)) ∙ c.loop-report.invariant }
 
 pub loop-report-preserved : goal.loop-report-preserved
 unfolding none
 loop-report-preserved c =
-    passed_over c.args.reports.now c.loop-report.report-index none c.args.begin c.args.finish c.loop-report-test.true (sym c.if-span-holds.ensures.answer) ∙ c.loop-report.invariant
+    passed_over c.args.reports.now c.loop-report.report-index none c.args.begin c.args.finish c.loop-report-test.true (sym c.if-span_holds.ensures.answer) ∙ c.loop-report.invariant
 
 pub returns : goal.returns
 returns c =

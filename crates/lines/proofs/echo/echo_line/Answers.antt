@@ -7,7 +7,7 @@ use Rattle.lines.proofs.echo.echo_line.Goals as goal
 
 pub returns-in-Ok : goal.returns-in-Ok
 returns-in-Ok c =
-    let w = c.write-line.ensures in
+    let w = c.write_line.ensures in
     record {
       lined = lined_same _ _ _ _ _ (ap ended (echo_read c.args.line.now _ c.in-Ok.ensures.answer)) (record { answer = w.answer; grown = w.after });
       memory = w.memory;
@@ -15,6 +15,6 @@ returns-in-Ok c =
 
 pub returns-in-Err : goal.returns-in-Err
 returns-in-Err c =
-    let w = c.write-line-in-Err.ensures in
-    let text = ap refusal_text c.of-text.ensures.answer ∙ echo_refused c.args.line.now _ c.in-Err.ensures.answer in
+    let w = c.write_line-in-Err.ensures in
+    let text = ap refusal_text c.of_text.ensures.answer ∙ echo_refused c.args.line.now _ c.in-Err.ensures.answer in
     record { lined = lined_same _ _ _ _ _ (ap ended text) (record { answer = w.answer; grown = w.after }); memory = w.memory }

@@ -9,22 +9,22 @@ use Rattle.lines.proofs.echo.echo_lines.Goals as goal
 
 pub loop-line-init : goal.loop-line-init
 loop-line-init c =
-    let all = ap (λ (lines : InputLines). input_lines lines.rest.now) c.into-iter-line-iterator.ensures.into-iter-gives ∙ c.new-line-items.ensures.lines in
+    let all = ap (λ (lines : InputLines). input_lines lines.rest.now) c.into_iter-line-iterator.ensures.into_iter-gives ∙ c.new-line-items.ensures.lines in
     (λ after r k. subst (λ (lines : List (List ℕ)). Printed (of_page c.args.page.now) (map echo_text lines) after r) all k, refl)
 
 pub loop-line-preserved : goal.loop-line-preserved
 loop-line-preserved c = (
-  λ after r k. c.loop-line.invariant.0 after r (echoed_next _ _ _ _ _ _ _ _ c.in-Some.ensures.steps c.in-ok-echo-line.ensures.lined k),
-  c.in-ok-echo-line.ensures.memory ∙ c.loop-line.invariant.1,
+  λ after r k. c.loop-line.invariant.0 after r (echoed_next _ _ _ _ _ _ _ _ c.in-Some.ensures.steps c.in_ok-echo_line.ensures.lined k),
+  c.in_ok-echo_line.ensures.memory ∙ c.loop-line.invariant.1,
 )
 
-pub returns-in-err-echo-line : goal.returns-in-err-echo-line
-returns-in-err-echo-line c =
-    let e = err_from_is_err_and c.from-residual.result c.from-residual.ensures.1 in
-    let stopped = echoed_stop _ _ _ _ _ _ c.in-Some.ensures.steps c.in-err-echo-line.ensures.lined in
+pub returns-in_err-echo_line : goal.returns-in_err-echo_line
+returns-in_err-echo_line c =
+    let e = err_from_is_err_and c.from_residual.result c.from_residual.ensures.1 in
+    let stopped = echoed_stop _ _ _ _ _ _ c.in-Some.ensures.steps c.in_err-echo_line.ensures.lined in
     rw (e.1, e.2) (record {
       printed = c.loop-line.invariant.0 _ _ stopped;
-      memory = c.in-err-echo-line.ensures.memory ∙ c.loop-line.invariant.1;
+      memory = c.in_err-echo_line.ensures.memory ∙ c.loop-line.invariant.1;
     })
 
 pub returns : goal.returns

@@ -6,6 +6,6 @@ use Rattle.lines.proofs.echo.refuse_input.Goals as goal
 
 pub returns : goal.returns
 returns c =
-    let w = c.write-line.ensures in
-    let text = ap (λ code. ended (refusal_text code)) c.of-text.ensures.answer in
+    let w = c.write_line.ensures in
+    let text = ap (λ code. ended (refusal_text code)) c.of_text.ensures.answer in
     record { printed = printed_one _ _ _ _ (lined_same _ _ _ _ _ text (record { answer = w.answer; grown = w.after })); memory = w.memory }

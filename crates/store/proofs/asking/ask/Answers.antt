@@ -17,17 +17,17 @@ use Rattle.store.proofs.asking.ask.Goals as goal
 
 pub returns-in-BeginReport : goal.returns-in-BeginReport
 returns-in-BeginReport g c = record {
-  law = begin_report_leads g.Key.Key.order g.met.Key.Key.total g.I.Index.sound g.I.Index.slots c.args.store.now c.begin-report.new.self (Basic c.args.call) c.report-begun.result c.args.shelf.now c.begin-report.result
-      (ap Basic c.in-BeginReport.is) c.report-begun.ensures.answer c.begin-report.ensures.answer c.begin-report.ensures.after c.begin-report.ensures.index;
-  unchanged = table_leaves (λ p. Report p.0 p.1) (λ x. refl) c.args.store.now c.begin-report.new.self c.report-begun.result c.args.shelf.now c.args.shelf.now c.begin-report.result (report_opened (view c.args.store.now.table)) c.report-begun.ensures.answer c.begin-report.ensures.after (λ why e. c.begin-report.ensures.index) refl;
+  law = begin_report_leads g.Key.Key.order g.met.Key.Key.total g.I.Index.sound g.I.Index.slots c.args.store.now c.begin_report.new.self (Basic c.args.call) c.report_begun.result c.args.shelf.now c.begin_report.result
+      (ap Basic c.in-BeginReport.is) c.report_begun.ensures.answer c.begin_report.ensures.answer c.begin_report.ensures.after c.begin_report.ensures.index;
+  unchanged = table_leaves (λ p. Report p.0 p.1) (λ x. refl) c.args.store.now c.begin_report.new.self c.report_begun.result c.args.shelf.now c.args.shelf.now c.begin_report.result (report_opened (view c.args.store.now.table)) c.report_begun.ensures.answer c.begin_report.ensures.after (λ why e. c.begin_report.ensures.index) refl;
   astray = λ ne. refl;
 }
 
 pub returns-in-BeginJob : goal.returns-in-BeginJob
 returns-in-BeginJob g c = record {
-  law = begin_job_leads g.Key.Key.order g.met.Key.Key.total g.I.Index.sound g.I.Index.slots c.args.store.now c.begin-job.new.self (Basic c.args.call) c.job-begun.result c.args.shelf.now c.begin-job.result
-      (ap Basic c.in-BeginJob.is) c.job-begun.ensures.answer c.begin-job.ensures.answer c.begin-job.ensures.after c.begin-job.ensures.index;
-  unchanged = table_leaves (λ t. Job t) (λ x. refl) c.args.store.now c.begin-job.new.self c.job-begun.result c.args.shelf.now c.args.shelf.now c.begin-job.result (job_opened (view c.args.store.now.table)) c.job-begun.ensures.answer c.begin-job.ensures.after (λ why e. c.begin-job.ensures.index) refl;
+  law = begin_job_leads g.Key.Key.order g.met.Key.Key.total g.I.Index.sound g.I.Index.slots c.args.store.now c.begin_job.new.self (Basic c.args.call) c.job_begun.result c.args.shelf.now c.begin_job.result
+      (ap Basic c.in-BeginJob.is) c.job_begun.ensures.answer c.begin_job.ensures.answer c.begin_job.ensures.after c.begin_job.ensures.index;
+  unchanged = table_leaves (λ t. Job t) (λ x. refl) c.args.store.now c.begin_job.new.self c.job_begun.result c.args.shelf.now c.args.shelf.now c.begin_job.result (job_opened (view c.args.store.now.table)) c.job_begun.ensures.answer c.begin_job.ensures.after (λ why e. c.begin_job.ensures.index) refl;
   astray = λ ne. refl;
 }
 
@@ -89,8 +89,8 @@ returns-in-End g c = record {
 
 pub returns-in-Age : goal.returns-in-Age
 returns-in-Age g c = record {
-  law = age_leads g.Key.Key.order g.met.Key.Key.total g.I.Index.sound g.I.Index.slots c.args.store.now c.age-counts.new.self (Basic c.args.call) _ c.args.shelf.now c.in-Age.limit c.age-counts.result.looked c.age-counts.result.freed
-      (ap Basic c.in-Age.is) refl c.age-counts.ensures.looked c.age-counts.ensures.freed c.age-counts.ensures.after c.age-counts.ensures.index;
+  law = age_leads g.Key.Key.order g.met.Key.Key.total g.I.Index.sound g.I.Index.slots c.args.store.now c.age_counts.new.self (Basic c.args.call) _ c.args.shelf.now c.in-Age.limit c.age_counts.result.looked c.age_counts.result.freed
+      (ap Basic c.in-Age.is) refl c.age_counts.ensures.looked c.age_counts.ensures.freed c.age_counts.ensures.after c.age_counts.ensures.index;
   unchanged = λ why e. let z : ◌≡◌ {A = ℕ} 0 1 = cc in differ z;
   astray = λ ne. refl;
 }

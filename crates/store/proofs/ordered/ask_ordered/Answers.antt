@@ -6,8 +6,8 @@ use Rattle.store.proofs.ordered.ask_ordered.Goals as goal
 
 pub returns-in-Walk : goal.returns-in-Walk
 returns-in-Walk g c = record {
-  law = walk_leads g.Key.Key.order g.met.Key.Key.total g.I.Index.sound g.I.Index.slots c.args.store.now c.args.call c.next-key.result c.args.shelf.now c.in-Walk.report c.in-Walk.after c.walk.result
-      c.in-Walk.is c.next-key.ensures.answer c.walk.ensures.answer;
+  law = walk_leads g.Key.Key.order g.met.Key.Key.total g.I.Index.sound g.I.Index.slots c.args.store.now c.args.call c.next_key.result c.args.shelf.now c.in-Walk.report c.in-Walk.after c.walk.result
+      c.in-Walk.is c.next_key.ensures.answer c.walk.ensures.answer;
   unchanged = λ why e. ((refl, refl), refl);
   astray = λ ne. refl;
 }

@@ -2,17 +2,17 @@ use Rattle.std.proofs.Common.{sym}
 use Rattle.table.specs.Ageing.{is_freed}
 use Rattle.table.proofs.Counting.{count_yes, count_no, count_all}
 use Rattle.table.proofs.age.count_freed.Goals as goal
-use Rattle.table.proofs.age.count_freed.Goals.{then-is-freed, else-is-freed}
+use Rattle.table.proofs.age.count_freed.Goals.{then-is_freed, else-is_freed}
 
 pub loop-place-preserved : goal.loop-place-preserved
 loop-place-preserved g c =
-    elim c.if-is-freed.branch [
-      | then-is-freed w ↦
-          count_yes (λ p. is_freed c.args.limit c.args.reports.now p.state) c.args.places.now c.loop-place.place-index c.loop-place.count c.if-is-freed.count c.loop-place.invariant
-          c.place-item.result c.loop-place-test.true c.place-item.is (sym w.if-is-freed.ensures.answer) w.count_is
-      | else-is-freed w ↦
-          count_no (λ p. is_freed c.args.limit c.args.reports.now p.state) c.args.places.now c.loop-place.place-index c.loop-place.count c.if-is-freed.count c.loop-place.invariant
-          c.place-item.result c.loop-place-test.true c.place-item.is (sym w.if-is-freed.ensures.answer) w.count_is
+    elim c.if-is_freed.branch [
+      | then-is_freed w ↦
+          count_yes (λ p. is_freed c.args.limit c.args.reports.now p.state) c.args.places.now c.loop-place.place-index c.loop-place.count c.if-is_freed.count c.loop-place.invariant
+          c.place-item.result c.loop-place-test.true c.place-item.is (sym w.if-is_freed.ensures.answer) w.count_is
+      | else-is_freed w ↦
+          count_no (λ p. is_freed c.args.limit c.args.reports.now p.state) c.args.places.now c.loop-place.place-index c.loop-place.count c.if-is_freed.count c.loop-place.invariant
+          c.place-item.result c.loop-place-test.true c.place-item.is (sym w.if-is_freed.ensures.answer) w.count_is
     ]
 
 pub returns : goal.returns

@@ -6,13 +6,13 @@ use Rattle.table.specs.Rows.{no_entry}
 use Rattle.table.proofs.Positions.{moved_on, moved_none, position_here, position_more}
 use Rattle.table.proofs.hold.find_entry.Goals as goal
 
-pub returns-then-carries-at : goal.returns-then-carries-at
-returns-then-carries-at g c =
+pub returns-then-carries_at : goal.returns-then-carries_at
+returns-then-carries_at g c =
     let test = holds_key g.K.Key.order c.args.places.now c.args.key in
     record {
       answer =
           sym (position_here test c.args.entries.now c.loop-i.i no_entry c.loop-i-test.true
-          (ap (carries_at g.K.Key.order c.args.places.now c.args.key) (sym c.place.ensures.answer) ∙ sym c.if-carries-at.ensures.answer))
+          (ap (carries_at g.K.Key.order c.args.places.now c.args.key) (sym c.place.ensures.answer) ∙ sym c.if-carries_at.ensures.answer))
           ∙ c.loop-i.invariant;
     }
 
@@ -20,7 +20,7 @@ pub loop-i-preserved : goal.loop-i-preserved
 loop-i-preserved g c =
     let test = holds_key g.K.Key.order c.args.places.now c.args.key in
     sym (position_more test c.args.entries.now c.loop-i.i no_entry c.loop-i-test.true
-    (ap (carries_at g.K.Key.order c.args.places.now c.args.key) (sym c.place.ensures.answer) ∙ sym c.if-carries-at.ensures.answer))
+    (ap (carries_at g.K.Key.order c.args.places.now c.args.key) (sym c.place.ensures.answer) ∙ sym c.if-carries_at.ensures.answer))
     ∙ c.loop-i.invariant
 
 pub loop-i-init : goal.loop-i-init

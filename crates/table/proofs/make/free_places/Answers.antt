@@ -7,8 +7,8 @@ use Rattle.table.proofs.make.free_places.Goals as goal
 pub loop-i-preserved : goal.loop-i-preserved
 loop-i-preserved g c = let more = replicate-append-replicate c.loop-i.-i 1 (free {K = g.row.K.Denot}) in search rules
 
-pub returns-in-err-push : goal.returns-in-err-push
-returns-in-err-push g c = search (rules, IfOk-from_err)
+pub returns-in_err-push : goal.returns-in_err-push
+returns-in_err-push g c = search (rules, IfOk-from_err)
 
 pub returns : goal.returns
 returns g c = let all : c.loop-i.-i ≡ c.args.count = omega arith in record { answer = (cc) }

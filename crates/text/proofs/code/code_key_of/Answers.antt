@@ -4,19 +4,19 @@ use Rattle.std.proofs.lemmas.List.{take_rest}
 use Rattle.text.specs.Codes.{code_key_of}
 use Rattle.text.proofs.CodeTexts.{unit_read}
 use Rattle.text.proofs.code.code_key_of.Goals as goal
-use Rattle.text.proofs.code.code_key_of.Goals.{then-s-ne-CODE-KEY-LENGTH-via-then-s-ne-CODE-KEY-LENGTH as no_length}
-use Rattle.text.proofs.code.code_key_of.Goals.{then-s-ne-CODE-KEY-LENGTH-via-else-s-ne-CODE-KEY-LENGTH+then-s-ne-COLON as no_colon}
+use Rattle.text.proofs.code.code_key_of.Goals.{then-s-ne-CODE_KEY_LENGTH-via-then-s-ne-CODE_KEY_LENGTH as no_length}
+use Rattle.text.proofs.code.code_key_of.Goals.{then-s-ne-CODE_KEY_LENGTH-via-else-s-ne-CODE_KEY_LENGTH+then-s-ne-COLON as no_colon}
 
-pub returns-then-s-ne-CODE-KEY-LENGTH : goal.returns-then-s-ne-CODE-KEY-LENGTH
+pub returns-then-s-ne-CODE_KEY_LENGTH : goal.returns-then-s-ne-CODE_KEY_LENGTH
 unfolding code_key_of
-returns-then-s-ne-CODE-KEY-LENGTH c =
-    elim c.then-s-ne-CODE-KEY-LENGTH.branch [
-      | no_length w ↦ record { answer = sym (cond-false _ _ _ (and_left _ _ (ne_eqb _ 10 w.if-s-ne-CODE-KEY-LENGTH.taken))) }
+returns-then-s-ne-CODE_KEY_LENGTH c =
+    elim c.then-s-ne-CODE_KEY_LENGTH.branch [
+      | no_length w ↦ record { answer = sym (cond-false _ _ _ (and_left _ _ (ne_eqb _ 10 w.if-s-ne-CODE_KEY_LENGTH.taken))) }
       | no_colon w ↦ record { answer = sym (cond-false _ _ _ (and_right _ _ (ne_eqb _ 58 w.if-s-ne-COLON.taken))) }
     ]
 
 pub returns : goal.returns
 unfolding code_key_of
 returns c =
-    let unit = unit_read c.args.s.now _ c.if-s-ne-CODE-KEY-LENGTH.false c.unit-of.ensures.answer in
+    let unit = unit_read c.args.s.now _ c.if-s-ne-CODE_KEY_LENGTH.false c.unit_of.ensures.answer in
     search (rules, take_rest c.args.s.now 5)

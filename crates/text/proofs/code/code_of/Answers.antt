@@ -3,17 +3,17 @@ use Rattle.std.proofs.lemmas.List.{take_rest}
 use Rattle.text.specs.Codes.{code_of}
 use Rattle.text.proofs.code.code_of.Goals as goal
 
-pub returns-then-s-ne-CODE-LENGTH : goal.returns-then-s-ne-CODE-LENGTH
+pub returns-then-s-ne-CODE_LENGTH : goal.returns-then-s-ne-CODE_LENGTH
 unfolding code_of
-returns-then-s-ne-CODE-LENGTH c = search rules
+returns-then-s-ne-CODE_LENGTH c = search rules
 
-pub returns-in-err-top : goal.returns-in-err-top
+pub returns-in_err-top : goal.returns-in_err-top
 unfolding code_of
-returns-in-err-top c = search rules
+returns-in_err-top c = search rules
 
-pub returns-in-err-low : goal.returns-in-err-low
+pub returns-in_err-low : goal.returns-in_err-low
 unfolding code_of
-returns-in-err-low c = search (rules, take_rest c.args.s.now 1)
+returns-in_err-low c = search (rules, take_rest c.args.s.now 1)
 
 pub returns : goal.returns
 unfolding code_of

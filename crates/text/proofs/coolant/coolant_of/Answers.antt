@@ -7,6 +7,6 @@ pub returns-in-45 : goal.returns-in-45
 unfolding coolant_of
 returns-in-45 c = search (rules, take_rest c.args.s.now 1)
 
-pub returns-in-default : goal.returns-in-default
+pub returns-in_default : goal.returns-in_default
 unfolding coolant_of
-returns-in-default c = search rules
+returns-in_default c = search rules

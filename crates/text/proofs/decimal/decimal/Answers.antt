@@ -2,13 +2,13 @@ use Rattle.std.proofs.Common.{rules}
 use Rattle.text.specs.Decimals.{decimal_of}
 use Rattle.text.proofs.decimal.decimal.Goals as goal
 
-pub returns-in-default : goal.returns-in-default
+pub returns-in_default : goal.returns-in_default
 unfolding decimal_of
-returns-in-default c = search rules
+returns-in_default c = search rules
 
-pub returns-in-empty : goal.returns-in-empty
+pub returns-in_empty : goal.returns-in_empty
 unfolding decimal_of
-returns-in-empty c = search rules
+returns-in_empty c = search rules
 
 pub returns-in-48 : goal.returns-in-48
 unfolding decimal_of

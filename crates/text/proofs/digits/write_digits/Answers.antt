@@ -2,8 +2,8 @@ use Rattle.std.proofs.Common.{mod-lt, arith, rules}
 use Rattle.text.proofs.Writing.{digits_start, digits_turn, digits_end}
 use Rattle.text.proofs.digits.write_digits.Goals as goal
 
-pub digit-byte-requires : goal.digit-byte-requires
-digit-byte-requires c = omega (arith, mod-lt c.loop-i.n c.requires.0)
+pub digit_byte-requires : goal.digit_byte-requires
+digit_byte-requires c = omega (arith, mod-lt c.loop-i.n c.requires.0)
 
 pub loop-i-init : goal.loop-i-init
 loop-i-init c = (omega arith, digits_start c.args.base c.args.out.now c.args.number)

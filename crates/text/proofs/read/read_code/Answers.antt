@@ -6,8 +6,8 @@ use Rattle.text.proofs.read.read_code.Goals as goal
 
 pub returns : goal.returns
 returns c =
-    let read = c.code-of.ensures.answer in
-    let is = c.ok-or.ensures.value in
+    let read = c.code_of.ensures.answer in
+    let is = c.ok_or.ensures.value in
     record {
       answer = search rules;
       own_text = read_own code_of code_text (λ s v e. (code_forth s v e).1) _ _ _ _ read is;

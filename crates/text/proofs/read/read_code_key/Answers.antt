@@ -7,7 +7,7 @@ use Rattle.text.proofs.read.read_code_key.Goals as goal
 pub returns : goal.returns
 returns c =
     let read = c.code_key_of.ensures.answer in
-    let is = c.ok-or.ensures.value in
+    let is = c.ok_or.ensures.value in
     record {
       answer = search rules;
       own_text = read_own code_key_of code_key_text (λ s v e. (code_key_forth s v e).1) _ _ _ _ read is;

@@ -7,7 +7,7 @@ use Rattle.text.proofs.read.read_fault.Goals as goal
 pub returns : goal.returns
 returns c =
     let read = c.fault_of.ensures.answer in
-    let is = c.ok-or.ensures.value in
+    let is = c.ok_or.ensures.value in
     record {
       answer = search rules;
       own_text = read_own fault_of fault_text (λ s v e. (fault_forth s v e).2) _ _ _ _ read is;

@@ -7,7 +7,7 @@ use Rattle.text.proofs.read.read_vehicle_key.Goals as goal
 
 pub returns : goal.returns
 returns c =
-    let is = c.ok-or.ensures.value in
+    let is = c.ok_or.ensures.value in
     let read = c.vehicle_key_of.ensures.answer in
     let answer = told_by_numbers _ _ _ is read in
     record {

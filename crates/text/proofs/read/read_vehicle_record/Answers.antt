@@ -7,7 +7,7 @@ use Rattle.text.proofs.read.read_vehicle_record.Goals as goal
 pub returns : goal.returns
 returns c =
     let read = c.vehicle_record_of.ensures.answer in
-    let is = c.ok-or.ensures.value in
+    let is = c.ok_or.ensures.value in
     record {
       answer = search rules;
       own_text = read_own vehicle_record_of vehicle_record_text (λ s v e. (vehicle_record_forth s v e).1) _ _ _ _ read is;

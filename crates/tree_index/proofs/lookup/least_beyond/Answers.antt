@@ -3,7 +3,7 @@ use Rattle.std.proofs.Common.{refl, inl, inr}
 use Rattle.std.proofs.lemmas.Bool.{both_ways}
 use Rattle.tree_index.proofs.Lookups.{least_ends, least_left, least_right}
 use Rattle.tree_index.proofs.lookup.least_beyond.Goals as goal
-use Rattle.tree_index.proofs.lookup.least_beyond.Goals.{then-is-beyond, else-is-beyond}
+use Rattle.tree_index.proofs.lookup.least_beyond.Goals.{then-is_beyond, else-is_beyond}
 
 pub returns-in-None : goal.returns-in-None
 returns-in-None g c =
@@ -13,13 +13,13 @@ returns-in-None g c =
 
 pub loop-turn-preserved : goal.loop-turn-preserved
 loop-turn-preserved g c =
-    elim c.if-is-beyond.branch [
-      | then-is-beyond w ↦
+    elim c.if-is_beyond.branch [
+      | then-is_beyond w ↦
           least_left g.row.K-Key.order g.met.K.Key.total c.args.nodes.now c.args.root c.loop-turn.at c.loop-turn.-turn c.args.given c.loop-turn.best c.loop-turn.invariant c.in-Some.found c.in-Some.ensures.answer
-          c.if-is-beyond.at c.if-is-beyond.best c.loop-turn-test.true (w.if-is-beyond.ensures.answer.0 refl) w.at_is w.best_is
-      | else-is-beyond w ↦
+          c.if-is_beyond.at c.if-is_beyond.best c.loop-turn-test.true (w.if-is_beyond.ensures.answer.0 refl) w.at_is w.best_is
+      | else-is_beyond w ↦
           least_right g.row.K-Key.order g.met.K.Key.total c.args.nodes.now c.args.root c.loop-turn.at c.loop-turn.-turn c.args.given c.loop-turn.best c.loop-turn.invariant c.in-Some.found c.in-Some.ensures.answer
-          c.if-is-beyond.at c.if-is-beyond.best c.loop-turn-test.true (λ b. both_ways c.is_beyond.result w.if-is-beyond.false (c.is_beyond.ensures.answer.1 b)) w.at_is w.best_is
+          c.if-is_beyond.at c.if-is_beyond.best c.loop-turn-test.true (λ b. both_ways c.is_beyond.result w.if-is_beyond.false (c.is_beyond.ensures.answer.1 b)) w.at_is w.best_is
     ]
 
 pub returns : goal.returns

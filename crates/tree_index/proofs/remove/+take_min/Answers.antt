@@ -18,16 +18,16 @@ returns-then-depth-eq0 g t c =
           c.in-Some.found c.in-Some.ensures.answer c.if-depth-eq0.true;
     }
 
-pub returns-in-None-take-min : goal.returns-in-None-take-min
-returns-in-None-take-min g t c =
+pub returns-in-None-take_min : goal.returns-in-None-take_min
+returns-in-None-take_min g t c =
     record {
       after = takes_here g.row.K-Key.order g.met.K.Key.total c.args.nodes.now c.args.at c.args.depth c.in-Some.found c.in-Some.ensures.answer c.if-depth-eq0.false
-          c.take-min.new.nodes c.in-None-take-min.ensures.after;
+          c.take_min.new.nodes c.in-None-take_min.ensures.after;
     }
 
-pub returns-in-Some-take-min : goal.returns-in-Some-take-min
-returns-in-Some-take-min g t c =
+pub returns-in-Some-take_min : goal.returns-in-Some-take_min
+returns-in-Some-take_min g t c =
     record {
       after = takes_left g.row.K-Key.order g.met.K.Key.total c.args.nodes.now c.args.at c.args.depth c.in-Some.found c.in-Some.ensures.answer c.if-depth-eq0.false
-          c.take-min.new.nodes c.relink.new.nodes c.with_child.result c.in-Some-take-min.min c.with_child.ensures.answer c.relink.ensures.after c.in-Some-take-min.ensures.after;
+          c.take_min.new.nodes c.relink.new.nodes c.with_child.result c.in-Some-take_min.min c.with_child.ensures.answer c.relink.ensures.after c.in-Some-take_min.ensures.after;
     }

@@ -2,8 +2,8 @@ use Rattle.std.proofs.Common.{refl, ◌∙◌}
 use Rattle.bucket_index.proofs.Buckets.{keys_set_length, unlinked_outside}
 use Rattle.bucket_index.proofs.bucket.BucketIndex.unlink.Goals as goal
 
-pub invariant-of-self-then-number-lt-CAPACITY : goal.invariant-of-self-then-number-lt-CAPACITY
-invariant-of-self-then-number-lt-CAPACITY c = ((c.args.self.now.sizes.0, keys_set_length _ _ _ ∙ c.args.self.now.sizes.1), tt)
+pub invariant_of-self-then-number-lt-CAPACITY : goal.invariant_of-self-then-number-lt-CAPACITY
+invariant_of-self-then-number-lt-CAPACITY c = ((c.args.self.now.sizes.0, keys_set_length _ _ _ ∙ c.args.self.now.sizes.1), tt)
 
 pub returns-else-number-lt-CAPACITY : goal.returns-else-number-lt-CAPACITY
 returns-else-number-lt-CAPACITY c =

@@ -11,8 +11,8 @@ pub loop-n-preserved : goal.loop-n-preserved
 loop-n-preserved g c =
     let below : c.loop-n.n < length (vec_items c.args.self.now.table.places) = search rules in (
       c.loop-n.invariant.0,
-      aged_more c.args.limit (view c.args.self.now.table) (view c.loop-n.self.table) (view c.age-place-lost.new.self.table) c.loop-n.n below c.loop-n.invariant.1 c.age-place-lost.ensures.after,
-      keeps_more g.I.Index.sound g.I.Index.slots c.loop-n.lost c.age-place-lost.result c.args.self.now c.loop-n.self c.age-place-lost.new.self c.loop-n.invariant.2 c.age-place-lost.ensures.index,
+      aged_more c.args.limit (view c.args.self.now.table) (view c.loop-n.self.table) (view c.age_place-lost.new.self.table) c.loop-n.n below c.loop-n.invariant.1 c.age_place-lost.ensures.after,
+      keeps_more g.I.Index.sound g.I.Index.slots c.loop-n.lost c.age_place-lost.result c.args.self.now c.loop-n.self c.age_place-lost.new.self c.loop-n.invariant.2 c.age_place-lost.ensures.index,
     )
 
 pub returns-then-lost : goal.returns-then-lost

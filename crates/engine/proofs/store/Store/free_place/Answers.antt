@@ -23,17 +23,17 @@ returns-in-Some g c =
       index = λ a. a;
     }
 
-pub returns-in-Some-find-unwanted : goal.returns-in-Some-find-unwanted
+pub returns-in-Some-find_unwanted : goal.returns-in-Some-find_unwanted
 unfolding full
-returns-in-Some-find-unwanted g c =
+returns-in-Some-find_unwanted g c =
     let v = view c.args.self.now.table in
-    let none = subst (λ ps. FindsPlace is_free ps None) c.deref.ensures.value c.in-default.ensures.answer in
-    let found = subst (λ ps. FindsPlace (λ p. not (is_wanted v.reports p)) ps (Some c.in-Some-find-unwanted.n)) c.deref-2.ensures.value
-    (subst (λ rs. FindsPlace (λ p. not (is_wanted rs p)) c.deref-2.result.now (Some c.in-Some-find-unwanted.n)) c.deref-3.ensures.value c.in-Some-find-unwanted.ensures.answer) in
-    let room = room_aged v c.in-Some-find-unwanted.n found.0 none found.1 in
+    let none = subst (λ ps. FindsPlace is_free ps None) c.deref.ensures.value c.in_default.ensures.answer in
+    let found = subst (λ ps. FindsPlace (λ p. not (is_wanted v.reports p)) ps (Some c.in-Some-find_unwanted.n)) c.deref-2.ensures.value
+    (subst (λ rs. FindsPlace (λ p. not (is_wanted rs p)) c.deref-2.result.now (Some c.in-Some-find_unwanted.n)) c.deref-3.ensures.value c.in-Some-find_unwanted.ensures.answer) in
+    let room = room_aged v c.in-Some-find_unwanted.n found.0 none found.1 in
     record {
-      answer = (ap full room.0, (room.2, c.age-places.ensures.after ∙ ap (with_places v) (sym room.1)));
-      index = c.age-places.ensures.index;
+      answer = (ap full room.0, (room.2, c.age_places.ensures.after ∙ ap (with_places v) (sym room.1)));
+      index = c.age_places.ensures.index;
     }
 
 pub returns-in-None : goal.returns-in-None

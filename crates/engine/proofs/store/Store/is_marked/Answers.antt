@@ -7,7 +7,7 @@ use Rattle.engine.proofs.store.Store.is_marked.Goals as goal
 pub returns-else-number-marks : goal.returns-else-number-marks
 returns-else-number-marks g c = record {
   answer = λ marks e.
-      c.is-some.ensures
-      ∙ (sym (finds_any free (λ p. is_seen_of g.Key.Key.order c.args.stamp c.args.key p.state) c.deref.result.now c.find-seen.result c.find-seen.ensures.answer)
+      c.is_some.ensures
+      ∙ (sym (finds_any free (λ p. is_seen_of g.Key.Key.order c.args.stamp c.args.key p.state) c.deref.result.now c.find_seen.result c.find_seen.ensures.answer)
       ∙ ap (λ ps. is_visible g.Key.Key.order ps c.args.stamp c.args.key) c.deref.ensures.value);
 }

@@ -5,43 +5,43 @@ use Rattle.table.specs.Views.{open_job, view}
 use Rattle.engine.proofs.Drafting.{same_placed, same_room}
 use Rattle.engine.proofs.store.Store.put.Goals as goal
 
-pub returns-in-err-n : goal.returns-in-err-n
-returns-in-err-n g c =
+pub returns-in_err-n : goal.returns-in_err-n
+returns-in_err-n g c =
     let v = view c.args.self.now.table in
-    let found : open_job (view c.args.self.now.table) c.args.job ≡ Some c.in-ok-row.row = found_some _ _ _ c.in-ok-row.ensures.answer in
-    let p = err_from_is_err_and c.from-residual-in-err-n.result c.from-residual-in-err-n.ensures.1 in
-    let out = c.in-err-n.ensures.answer in
+    let found : open_job (view c.args.self.now.table) c.args.job ≡ Some c.in_ok-row.row = found_some _ _ _ c.in_ok-row.ensures.answer in
+    let p = err_from_is_err_and c.from_residual-in_err-n.result c.from_residual-in_err-n.ensures.1 in
+    let out = c.in_err-n.ensures.answer in
     rw (p.1, p.2) (record {
       answer = (
-        passes (job_is_open v c.args.job c.in-ok-row.row found)
-            (passes (passed _ _ _ c.in-ok-check-shelf.ensures.answer)
-            (passes (passed _ _ _ c.in-ok-check-holder.ensures.answer)
-            (same_room g.Key.Key.order v c.args.job c.args.key c.in-ok-row.row found _ out.0))),
+        passes (job_is_open v c.args.job c.in_ok-row.row found)
+            (passes (passed _ _ _ c.in_ok-check_shelf.ensures.answer)
+            (passes (passed _ _ _ c.in_ok-check_holder.ensures.answer)
+            (same_room g.Key.Key.order v c.args.job c.args.key c.in_ok-row.row found _ out.0))),
         (out.1, refl),
       );
-      index = c.draft-place.ensures.index;
+      index = c.draft_place.ensures.index;
     })
 
 pub returns : goal.returns
 returns g c =
     let v = view c.args.self.now.table in
-    let found : open_job (view c.args.self.now.table) c.args.job ≡ Some c.in-ok-row.row = found_some _ _ _ c.in-ok-row.ensures.answer in
-    let out = c.in-ok-n.ensures.answer in
+    let found : open_job (view c.args.self.now.table) c.args.job ≡ Some c.in_ok-row.row = found_some _ _ _ c.in_ok-row.ensures.answer in
+    let out = c.in_ok-n.ensures.answer in
     record {
       answer = (
-        passes (job_is_open v c.args.job c.in-ok-row.row found)
-            (passes (passed _ _ _ c.in-ok-check-shelf.ensures.answer)
-            (passes (passed _ _ _ c.in-ok-check-holder.ensures.answer)
-            (same_room g.Key.Key.order v c.args.job c.args.key c.in-ok-row.row found None out.0))),
+        passes (job_is_open v c.args.job c.in_ok-row.row found)
+            (passes (passed _ _ _ c.in_ok-check_shelf.ensures.answer)
+            (passes (passed _ _ _ c.in_ok-check_holder.ensures.answer)
+            (same_room g.Key.Key.order v c.args.job c.args.key c.in_ok-row.row found None out.0))),
         (
-          c.in-ok-n.n,
+          c.in_ok-n.n,
           (
-            view c.draft-place.new.self.table,
-            same_placed g.Key.Key.order v c.args.job c.args.key c.in-ok-row.row found (view c.draft-place.new.self.table) c.in-ok-n.n out.1,
-            c.turn-listed.ensures.after,
+            view c.draft_place.new.self.table,
+            same_placed g.Key.Key.order v c.args.job c.args.key c.in_ok-row.row found (view c.draft_place.new.self.table) c.in_ok-n.n out.1,
+            c.turn_listed.ensures.after,
           ),
           c.write.ensures.after,
         ),
       );
-      index = λ a. c.turn-listed.ensures.index (c.draft-place.ensures.index a);
+      index = λ a. c.turn_listed.ensures.index (c.draft_place.ensures.index a);
     }

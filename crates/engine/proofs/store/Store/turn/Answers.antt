@@ -22,7 +22,7 @@ returns g c =
     let slots = g.I.Index.slots c.args.self.now.index in
     let below : c.args.n < length (vec_items c.args.self.now.table.places) = search rules in
     let next : c.on-next.result ≡ after (get_or places c.args.n free) c.args.event =
-    c.on-next.ensures.answer ∙ ap (λ p. after p c.args.event) (c.place-at.ensures.answer ∙ ap (λ ps. get_or ps c.args.n free) c.deref.ensures.value) in
+    c.on-next.ensures.answer ∙ ap (λ p. after p c.args.event) (c.place_at.ensures.answer ∙ ap (λ ps. get_or ps c.args.n free) c.deref.ensures.value) in
     record {
       after = ap (λ p. with_places (view c.args.self.now.table) (set places c.args.n p)) next;
       index = λ before a. (

@@ -11,9 +11,9 @@ loop-held-init g c = (refl, λ before a. a)
 
 pub loop-held-preserved : goal.loop-held-preserved
 loop-held-preserved g c = (
-  folded_step (undone) (view c.args.self.now.table) c.in-use-held-items.result.now (view c.loop-held.self.table) (view c.turn-at-lost.new.self.table) c.loop-held.held-index no_entry
-      c.loop-held-test.true c.loop-held.invariant.0 c.turn-at-lost.ensures.after,
-  keeps_more g.I.Index.sound g.I.Index.slots c.loop-held.lost c.turn-at-lost.result c.args.self.now c.loop-held.self c.turn-at-lost.new.self c.loop-held.invariant.1 c.turn-at-lost.ensures.index,
+  folded_step (undone) (view c.args.self.now.table) c.in_use-held-items.result.now (view c.loop-held.self.table) (view c.turn_at-lost.new.self.table) c.loop-held.held-index no_entry
+      c.loop-held-test.true c.loop-held.invariant.0 c.turn_at-lost.ensures.after,
+  keeps_more g.I.Index.sound g.I.Index.slots c.loop-held.lost c.turn_at-lost.result c.args.self.now c.loop-held.self c.turn_at-lost.new.self c.loop-held.invariant.1 c.turn_at-lost.ensures.index,
 )
 
 pub returns-then-lost : goal.returns-then-lost
@@ -22,8 +22,8 @@ returns-then-lost g c =
     record {
       after =
           c.relist.ensures.after
-          ∙ (folded_all (undone) v c.in-use-held-items.result.now (view c.loop-held.self.table) c.loop-held.held-index c.loop-held-test.false c.loop-held.invariant.0
-          ∙ ap (λ es. with_places v (fold (undone) v.places es)) c.in-use-held-items.ensures.answer);
+          ∙ (folded_all (undone) v c.in_use-held-items.result.now (view c.loop-held.self.table) c.loop-held.held-index c.loop-held-test.false c.loop-held.invariant.0
+          ∙ ap (λ es. with_places v (fold (undone) v.places es)) c.in_use-held-items.ensures.answer);
       index = keeps_relisted g.I.Index.sound g.I.Index.slots c.loop-held.lost c.args.self.now c.loop-held.self c.relist.new.self c.loop-held.invariant.1 c.relist.ensures.index;
     }
 
@@ -32,7 +32,7 @@ returns-else-lost g c =
     let v = view c.args.self.now.table in
     record {
       after =
-          folded_all (undone) v c.in-use-held-items.result.now (view c.loop-held.self.table) c.loop-held.held-index c.loop-held-test.false c.loop-held.invariant.0
-          ∙ ap (λ es. with_places v (fold (undone) v.places es)) c.in-use-held-items.ensures.answer;
+          folded_all (undone) v c.in_use-held-items.result.now (view c.loop-held.self.table) c.loop-held.held-index c.loop-held-test.false c.loop-held.invariant.0
+          ∙ ap (λ es. with_places v (fold (undone) v.places es)) c.in_use-held-items.ensures.answer;
       index = keeps_all g.I.Index.sound g.I.Index.slots c.loop-held.lost c.args.self.now c.loop-held.self c.if-lost.false c.loop-held.invariant.1;
     }

@@ -2,8 +2,8 @@ use Rattle.std.proofs.Common.{◌≡◌, sym, ap, ◌∙◌, subst, arith}
 use Rattle.table.proofs.Positions.{AtTicket, NoTicket, at_ticket, no_ticket}
 use Rattle.table.proofs.open_list.OpenList.replace.Goals as goal
 
-pub index-mut-requires : goal.index-mut-requires
-index-mut-requires g c =
+pub index_mut-requires : goal.index_mut-requires
+index_mut-requires g c =
     let at = at_ticket g.T.Ticketed.number c.ticket.result c.deref.result.now c.in-Some.i (sym c.in-Some.ensures.answer) in
     omega (arith, at.within, c.deref.ensures.len)
 
@@ -13,8 +13,8 @@ returns-in-Some g c =
     (at_ticket g.T.Ticketed.number c.ticket.result c.deref.result.now c.in-Some.i (sym c.in-Some.ensures.answer)) in
     record { after = sym (at.written c.args.item (sym c.ticket.ensures.answer)) }
 
-pub returns-in-default : goal.returns-in-default
-returns-in-default g c =
+pub returns-in_default : goal.returns-in_default
+returns-in_default g c =
     let none = subst (NoTicket g.T.Ticketed.number c.ticket.result) c.deref.ensures.value
-    (no_ticket g.T.Ticketed.number c.ticket.result c.deref.result.now (sym c.in-default.ensures.answer)) in
+    (no_ticket g.T.Ticketed.number c.ticket.result c.deref.result.now (sym c.in_default.ensures.answer)) in
     record { after = sym (none.written c.args.item (sym c.ticket.ensures.answer)) }

@@ -6,4 +6,4 @@ use Rattle.table.proofs.row.Row.holds.Goals as goal
 
 pub returns : goal.returns
 returns g c =
-    record { answer = c.is-some.ensures ∙ (ap is_some c.entry_for.ensures.answer ∙ any_position (holds_key g.K.Key.order c.args.places.now c.args.key) (entries_of c.args.self.now)) }
+    record { answer = c.is_some.ensures ∙ (ap is_some c.entry_for.ensures.answer ∙ any_position (holds_key g.K.Key.order c.args.places.now c.args.key) (entries_of c.args.self.now)) }

@@ -8,9 +8,9 @@ use Rattle.table.proofs.row.Row.noted.Goals as goal
 row_with : Row → List HeldKey → Row
 row_with row es = record { ticket = row.ticket; used = row.used; entries = es }
 
-pub returns-else-i-lt-ROW-ENTRIES : goal.returns-else-i-lt-ROW-ENTRIES
+pub returns-else-i-lt-ROW_ENTRIES : goal.returns-else-i-lt-ROW_ENTRIES
 unfolding row_with
-returns-else-i-lt-ROW-ENTRIES c =
+returns-else-i-lt-ROW_ENTRIES c =
     let past : length c.args.self.entries ≤ c.in-Some.i = search rules in
     let same : set c.args.self.entries c.in-Some.i c.args.entry ≡ c.args.self.entries = set_past c.args.self.entries c.in-Some.i c.args.entry past in
     record { answer = sym (ap (λ o. noted o c.args.entry c.args.self) c.in-Some.is ∙ ap (λ (es : List HeldKey). row_with c.args.self es) same) }
