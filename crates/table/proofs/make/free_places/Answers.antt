@@ -5,10 +5,10 @@ use Rattle.std.proofs.lemmas.Result.{IfOk-from_err}
 use Rattle.table.proofs.make.free_places.Goals as goal
 
 pub loop-i-preserved : goal.loop-i-preserved
-loop-i-preserved g c = let more = replicate-append-replicate c.loop-i.-i 1 (free {K = g.row.K.Denot}) in search rules
+loop-i-preserved g c = let more = replicate-append-replicate c.loop-i._i 1 (free {K = g.row.K.Denot}) in search rules
 
 pub returns-in_err-push : goal.returns-in_err-push
 returns-in_err-push g c = search (rules, IfOk-from_err)
 
 pub returns : goal.returns
-returns g c = let all : c.loop-i.-i ≡ c.args.count = omega arith in record { answer = (cc) }
+returns g c = let all : c.loop-i._i ≡ c.args.count = omega arith in record { answer = (cc) }
