@@ -19,7 +19,7 @@ loop-n-preserved g c = λ lost s a.
           subst (λ i. g.I.Index.sound i × ListedTo (c.loop-n.n + 1) (g.I.Index.slots i) c.args.places.now) (sym w.index-is) (
             w.add.ensures.kept was.0,
             subst (λ slots. ListedTo (c.loop-n.n + 1) slots c.args.places.now) (sym (w.add.ensures.after was.0))
-                (listed_more (g.I.Index.slots c.loop-n.index) c.args.places.now c.loop-n.n was.1 g.Key.Key.order g.met.Key.Key.total w.in-Some.key (sym key ∙ w.in-Some.is)),
+                (listed_more (g.I.Index.slots c.loop-n.index) c.args.places.now c.loop-n.n was.1 g.I.Key.Key.order g.met.I.Key.Key.total w.in-Some.key (sym key ∙ w.in-Some.is)),
           )
       | in_default w ↦
           subst (λ i. g.I.Index.sound i × ListedTo (c.loop-n.n + 1) (g.I.Index.slots i) c.args.places.now) (sym w.index-is) (

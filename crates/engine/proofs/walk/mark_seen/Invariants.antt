@@ -6,4 +6,4 @@ use Rattle.engine.proofs.walk.mark_seen.Given as goal
 abbrev pub invariant-loop-place : goal.invariant-loop-place
 invariant-loop-place g l =
     (length l.marks ≡ max_places)
-    × (g.I.Index.sound l.index → Marks g.Key.Key.order (g.I.Index.slots l.index) (take l.place-index l.places) l.stamp l.marks)
+    × (g.I.Index.sound l.index → Marks g.I.Key.Key.order (g.I.Index.slots l.index) (take l.place-index l.places) l.stamp l.marks)

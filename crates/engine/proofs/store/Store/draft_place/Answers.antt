@@ -21,7 +21,7 @@ last_passed (Some why) e = e
 pub returns : goal.returns
 returns g c =
     let v = view c.args.self.now.table in
-    let order = g.Key.Key.order in
+    let order = g.I.Key.Key.order in
     let draft : draft_at order v.places c.args.key c.args.row ≡ None =
     ap (λ ps. draft_at order ps c.args.key c.args.row) (sym c.deref.ensures.value) ∙ sym c.in_default.ensures.answer in
     let entry : c.entry_for-entry.result ≡ entry_at order v.places c.args.key c.args.row =

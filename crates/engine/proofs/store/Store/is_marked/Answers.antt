@@ -8,6 +8,6 @@ pub returns-else-number-marks : goal.returns-else-number-marks
 returns-else-number-marks g c = record {
   answer = λ marks e.
       c.is_some.ensures
-      ∙ (sym (finds_any free (λ p. is_seen_of g.Key.Key.order c.args.stamp c.args.key p.state) c.deref.result.now c.find_seen.result c.find_seen.ensures.answer)
-      ∙ ap (λ ps. is_visible g.Key.Key.order ps c.args.stamp c.args.key) c.deref.ensures.value);
+      ∙ (sym (finds_any free (λ p. is_seen_of g.I.Key.Key.order c.args.stamp c.args.key p.state) c.deref.result.now c.find_seen.result c.find_seen.ensures.answer)
+      ∙ ap (λ ps. is_visible g.I.Key.Key.order ps c.args.stamp c.args.key) c.deref.ensures.value);
 }

@@ -16,7 +16,7 @@ returns-in_err-n g c =
         passes (job_is_open v c.args.job c.in_ok-row.row found)
             (passes (passed _ _ _ c.in_ok-check_shelf.ensures.answer)
             (passes (passed _ _ _ c.in_ok-check_holder.ensures.answer)
-            (same_room g.Key.Key.order v c.args.job c.args.key c.in_ok-row.row found _ out.0))),
+            (same_room g.I.Key.Key.order v c.args.job c.args.key c.in_ok-row.row found _ out.0))),
         (out.1, refl),
       );
       index = c.draft_place.ensures.index;
@@ -32,12 +32,12 @@ returns g c =
         passes (job_is_open v c.args.job c.in_ok-row.row found)
             (passes (passed _ _ _ c.in_ok-check_shelf.ensures.answer)
             (passes (passed _ _ _ c.in_ok-check_holder.ensures.answer)
-            (same_room g.Key.Key.order v c.args.job c.args.key c.in_ok-row.row found None out.0))),
+            (same_room g.I.Key.Key.order v c.args.job c.args.key c.in_ok-row.row found None out.0))),
         (
           c.in_ok-n.n,
           (
             view c.draft_place.new.self.table,
-            same_placed g.Key.Key.order v c.args.job c.args.key c.in_ok-row.row found (view c.draft_place.new.self.table) c.in_ok-n.n out.1,
+            same_placed g.I.Key.Key.order v c.args.job c.args.key c.in_ok-row.row found (view c.draft_place.new.self.table) c.in_ok-n.n out.1,
             c.turn_listed.ensures.after,
           ),
           c.write.ensures.after,

@@ -15,8 +15,8 @@ returns-in_err-n g c =
       answer = (
         passes (job_is_open v c.args.job c.in_ok-row.row found)
             (passes (passed _ _ _ c.in_ok-check_holder.ensures.answer)
-            (passes (same_there g.Key.Key.order v c.args.job c.args.key c.in_ok-row.row found None (passed _ _ _ c.in_ok-check_there.ensures.answer))
-            (same_room g.Key.Key.order v c.args.job c.args.key c.in_ok-row.row found _ out.0))),
+            (passes (same_there g.I.Key.Key.order v c.args.job c.args.key c.in_ok-row.row found None (passed _ _ _ c.in_ok-check_there.ensures.answer))
+            (same_room g.I.Key.Key.order v c.args.job c.args.key c.in_ok-row.row found _ out.0))),
         out.1,
       );
       index = c.draft_place.ensures.index;
@@ -31,13 +31,13 @@ returns g c =
       answer = (
         passes (job_is_open v c.args.job c.in_ok-row.row found)
             (passes (passed _ _ _ c.in_ok-check_holder.ensures.answer)
-            (passes (same_there g.Key.Key.order v c.args.job c.args.key c.in_ok-row.row found None (passed _ _ _ c.in_ok-check_there.ensures.answer))
-            (same_room g.Key.Key.order v c.args.job c.args.key c.in_ok-row.row found None out.0))),
+            (passes (same_there g.I.Key.Key.order v c.args.job c.args.key c.in_ok-row.row found None (passed _ _ _ c.in_ok-check_there.ensures.answer))
+            (same_room g.I.Key.Key.order v c.args.job c.args.key c.in_ok-row.row found None out.0))),
         (
           c.in_ok-n.n,
           (
             view c.draft_place.new.self.table,
-            same_placed g.Key.Key.order v c.args.job c.args.key c.in_ok-row.row found (view c.draft_place.new.self.table) c.in_ok-n.n out.1,
+            same_placed g.I.Key.Key.order v c.args.job c.args.key c.in_ok-row.row found (view c.draft_place.new.self.table) c.in_ok-n.n out.1,
             c.turn_listed.ensures.after,
           ),
         ),

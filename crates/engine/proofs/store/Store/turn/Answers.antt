@@ -28,8 +28,8 @@ returns g c =
       index = λ before a. (
         c.tell.ensures.kept a.0,
         subst (λ xs. AgreeBut (c.tell.result || before) xs (set places c.args.n c.on-next.result)) (sym (c.tell.ensures.after a.0))
-            (subst (λ b. AgreeBut (b || before) (told_of g.Key.Key.order slots c.args.n c.key.result) (set places c.args.n c.on-next.result)) (sym (c.tell.ensures.answer a.0))
-            (told_agrees g.Key.Key.order g.met.Key.Key.total before slots places c.args.n c.on-next.result c.key.result below (sym c.key.ensures.answer)
+            (subst (λ b. AgreeBut (b || before) (told_of g.I.Key.Key.order slots c.args.n c.key.result) (set places c.args.n c.on-next.result)) (sym (c.tell.ensures.answer a.0))
+            (told_agrees g.I.Key.Key.order g.met.I.Key.Key.total before slots places c.args.n c.on-next.result c.key.result below (sym c.key.ensures.answer)
             (λ k q e h. key_kept (get_or places c.args.n free).state c.args.event k q e (sym (ap (λ p. key_of p.state) next) ∙ h))
             a.1)),
       );

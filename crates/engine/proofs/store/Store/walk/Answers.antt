@@ -17,7 +17,7 @@ returns g c =
     record {
       answer = λ a.
           let v = view c.args.self.now.table in
-          let order = g.Key.Key.order in
+          let order = g.I.Key.Key.order in
           let stamp : sight (view c.args.self.now.table) c.args.report ≡ c.in_ok-open.open.stamp = ap (λ (o : Option Report). unwrap_or (option_map (λ r. r.stamp) o) 0) open_is in
           let marks = subst (λ ps. Marks order (g.I.Index.slots c.args.self.now.index) ps c.in_ok-open.open.stamp c.mark_seen-marks.result) c.deref.ensures.value (c.mark_seen-marks.ensures.answer a.0) in (
             rw open_is,
