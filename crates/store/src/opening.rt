@@ -21,7 +21,7 @@ pub fn open<I: Index, R>(
     ensures answer { I.Index.sound index → refusal_of result ≡ sent_back (open_checks (I.Index.slots index) store places first_stamp first_ticket) }
     ensures range { in_ranges store places first_stamp first_ticket ≡ false → refusal_of result ≡ Some (plain 1) }
     ensures unchanged { index_of result ≡ index }
-    ensures law { I.Index.sound index → LedFrom Key-as-Key.order I.Index.sound I.Index.slots R (numbers store places first_stamp first_ticket) result }
+    ensures law { I.Index.sound index → LedFrom I.Key.Key.order I.Index.sound I.Index.slots R (numbers store places first_stamp first_ticket) result }
 {
     Store::open(heap, store, places, first_stamp, first_ticket, index)
 }

@@ -14,7 +14,7 @@ use ledger::Refusal;
 
 // Begins a report: its ticket, and the stamp that it sees.
 pub fn begin_report<I: Index, R>(store: &mut Store<I>) -> Result<(ReportTicket, u32), Refusal>
-    ensures law { LeadsOn Key-as-Key.order I.Index.sound I.Index.slots (Basic BeginReport) (answer_of (λ p. Report (id_of_report p.0) p.1) result) store.old store.new (no_shelf R) (no_shelf R) }
+    ensures law { LeadsOn I.Key.Key.order I.Index.sound I.Index.slots (Basic BeginReport) (answer_of (λ p. Report (id_of_report p.0) p.1) result) store.old store.new (no_shelf R) (no_shelf R) }
 {
     ReportTicket::issue(store.begin_report())
 }
@@ -24,7 +24,7 @@ pub fn end_report<I: Index, R>(
     store: &mut Store<I>,
     ticket: ReportTicket,
 ) -> Result<(), (Refusal, ReportTicket)>
-    ensures law { LeadsOn Key-as-Key.order I.Index.sound I.Index.slots (Basic (End (id_of_report ticket))) (answer_of (λ u. Done) (but_for_ticket result)) store.old store.new (no_shelf R) (no_shelf R) }
+    ensures law { LeadsOn I.Key.Key.order I.Index.sound I.Index.slots (Basic (End (id_of_report ticket))) (answer_of (λ u. Done) (but_for_ticket result)) store.old store.new (no_shelf R) (no_shelf R) }
     ensures back { GivesBack ticket result }
 {
     let ended = store.end(ticket.id());
@@ -33,7 +33,7 @@ pub fn end_report<I: Index, R>(
 
 // Begins a job.
 pub fn begin_job<I: Index, R>(store: &mut Store<I>) -> Result<JobTicket, Refusal>
-    ensures law { LeadsOn Key-as-Key.order I.Index.sound I.Index.slots (Basic BeginJob) (answer_of (λ t. Job (id_of_job t)) result) store.old store.new (no_shelf R) (no_shelf R) }
+    ensures law { LeadsOn I.Key.Key.order I.Index.sound I.Index.slots (Basic BeginJob) (answer_of (λ t. Job (id_of_job t)) result) store.old store.new (no_shelf R) (no_shelf R) }
 {
     JobTicket::issue(store.begin_job())
 }
@@ -43,7 +43,7 @@ pub fn commit_job<I: Index, R>(
     store: &mut Store<I>,
     ticket: JobTicket,
 ) -> Result<u32, (Refusal, JobTicket)>
-    ensures law { LeadsOn Key-as-Key.order I.Index.sound I.Index.slots (Basic (Commit (id_of_job ticket))) (answer_of (λ s. Stamp s) (but_for_ticket result)) store.old store.new (no_shelf R) (no_shelf R) }
+    ensures law { LeadsOn I.Key.Key.order I.Index.sound I.Index.slots (Basic (Commit (id_of_job ticket))) (answer_of (λ s. Stamp s) (but_for_ticket result)) store.old store.new (no_shelf R) (no_shelf R) }
     ensures back { GivesBack ticket result }
 {
     let ended = store.commit(ticket.id());
@@ -55,7 +55,7 @@ pub fn abort_job<I: Index, R>(
     store: &mut Store<I>,
     ticket: JobTicket,
 ) -> Result<(), (Refusal, JobTicket)>
-    ensures law { LeadsOn Key-as-Key.order I.Index.sound I.Index.slots (Basic (Abort (id_of_job ticket))) (answer_of (λ u. Done) (but_for_ticket result)) store.old store.new (no_shelf R) (no_shelf R) }
+    ensures law { LeadsOn I.Key.Key.order I.Index.sound I.Index.slots (Basic (Abort (id_of_job ticket))) (answer_of (λ u. Done) (but_for_ticket result)) store.old store.new (no_shelf R) (no_shelf R) }
     ensures back { GivesBack ticket result }
 {
     let ended = store.abort(ticket.id());

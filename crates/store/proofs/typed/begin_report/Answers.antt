@@ -9,6 +9,6 @@ use Rattle.store.proofs.typed.begin_report.Goals as goal
 
 pub returns : goal.returns
 returns g c = record {
-  law = begin_report_leads g.Key.Key.order g.met.Key.Key.total g.I.Index.sound g.I.Index.slots c.args.store.now c.begin_report.new.self (Basic BeginReport) _ (no_shelf g.row.R.Denot) c.begin_report.result refl
+  law = begin_report_leads g.I.Key.Key.order g.met.I.Key.Key.total g.I.Index.sound g.I.Index.slots c.args.store.now c.begin_report.new.self (Basic BeginReport) _ (no_shelf g.row.R.Denot) c.begin_report.result refl
       (report_answer c.begin_report.result c.issue.result c.issue.ensures.answer) c.begin_report.ensures.answer c.begin_report.ensures.after c.begin_report.ensures.index;
 }

@@ -11,7 +11,7 @@ use Rattle.store.proofs.typed.commit_job.Goals as goal
 
 pub returns : goal.returns
 returns g c = record {
-  law = commit_leads g.Key.Key.order g.met.Key.Key.total g.I.Index.sound g.I.Index.slots c.args.store.now c.commit-ended.new.self (Basic (Commit (id_of_job c.args.ticket))) _ (no_shelf g.row.R.Denot) c.id.result c.commit-ended.result (ap (λ t. Basic (Commit t)) (sym c.id.ensures.answer))
+  law = commit_leads g.I.Key.Key.order g.met.I.Key.Key.total g.I.Index.sound g.I.Index.slots c.args.store.now c.commit-ended.new.self (Basic (Commit (id_of_job c.args.ticket))) _ (no_shelf g.row.R.Denot) c.id.result c.commit-ended.result (ap (λ t. Basic (Commit t)) (sym c.id.ensures.answer))
       (same_answer (λ s. Stamp s) c.args.ticket c.commit-ended.result c.settle.result c.settle.ensures.answer) c.commit-ended.ensures.answer c.commit-ended.ensures.after c.commit-ended.ensures.index;
   back = given_back c.args.ticket c.commit-ended.result c.settle.result c.settle.ensures.answer;
 }

@@ -11,7 +11,7 @@ use Rattle.store.proofs.typed.end_report.Goals as goal
 
 pub returns : goal.returns
 returns g c = record {
-  law = end_leads g.Key.Key.order g.met.Key.Key.total g.I.Index.sound g.I.Index.slots c.args.store.now c.end-ended.new.self (Basic (End (id_of_report c.args.ticket))) _ (no_shelf g.row.R.Denot) c.id.result c.end-ended.result (ap (λ t. Basic (End t)) (sym c.id.ensures.answer))
+  law = end_leads g.I.Key.Key.order g.met.I.Key.Key.total g.I.Index.sound g.I.Index.slots c.args.store.now c.end-ended.new.self (Basic (End (id_of_report c.args.ticket))) _ (no_shelf g.row.R.Denot) c.id.result c.end-ended.result (ap (λ t. Basic (End t)) (sym c.id.ensures.answer))
       (same_answer (λ u. Done) c.args.ticket c.end-ended.result c.settle.result c.settle.ensures.answer) c.end-ended.ensures.answer c.end-ended.ensures.after c.end-ended.ensures.index;
   back = given_back c.args.ticket c.end-ended.result c.settle.result c.settle.ensures.answer;
 }
