@@ -1,6 +1,6 @@
 -- For proofs about stores: what holds of every store that a run reaches, and how what is looked up is found in the places.
 -- A reached store agrees with a sound model, so its own places are sound too: a place that holds what is looked for holds the only one.
-use Rattle.std.proofs.Common.{◌≡◌, ℕ, zero, suc, ◌+◌, ◌≤◌, cond, List, [], ◌∷◌, ◌++◌, length, Some, None, count_by, Option, Ordering, refl, ◌∙◌, arith}
+use Rattle.std.proofs.Common.{◌≡◌, ℕ, zero, suc, ◌≤◌, cond, List, [], ◌∷◌, ◌++◌, length, Some, None, count_by, Option, Ordering, refl, ◌∙◌, arith}
 use Rattle.std.specs.List.{slice_get}
 use Rattle.std.proofs.lemmas.List.Sums.{sum_by-cons, sum_by-append}
 use Rattle.keys.specs.Orders.{Total}

@@ -22,7 +22,7 @@ use Rattle.ledger.specs.Control.{Job, Control, job_at, keys_of, has_key, holding
 use Rattle.ledger.specs.Calls.{Exchange, change, is_age}
 use Rattle.ledger.specs.Steps.{Summary, job_open, stamp_left, answered}
 use Rattle.ledger.specs.Laws.{before, last_draft, left}
-use Rattle.ledger.proofs.Finding.{never, found, all_both}
+use Rattle.ledger.proofs.Finding.{never, all_both}
 use Rattle.ledger.proofs.Model.{met, moved_on, Sound, current_is_seen}
 use Rattle.ledger.proofs.Lookups.{draft_drafted, current_drafted, seen_drafted, draft_settled, current_settled, seen_settled, draft_aborted, current_aborted, seen_aborted}
 use Rattle.ledger.proofs.Runs.{is_open, is_own}

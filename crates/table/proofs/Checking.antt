@@ -1,6 +1,6 @@
 -- Checks one after the other: a check that passes leaves the answer to the next ones, the first that fails is the answer.
 use Rattle.std.proofs.Common.{◌≡◌, ℕ, Some, None, Ok, Err, Option, refl, arith}
-use Rattle.keys.specs.Refusals.{Code, plain}
+use Rattle.keys.specs.Refusals.{Code}
 use Rattle.ledger.specs.Words.{or_else}
 use Rattle.ledger.specs.declared.call.TicketId.{TicketId}
 use Rattle.std.specs.Option.{ok_or}

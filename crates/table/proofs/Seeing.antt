@@ -1,5 +1,5 @@
 -- Whether a search found a place is whether any place passes its test, and so with what a job finds at a key.
-use Rattle.std.proofs.Common.{◌≡◌, ℕ, zero, suc, ◌<◌, Bool, true, false, not, ◌&&◌, ◌||◌, List, [], ◌∷◌, length, get_or, is_some, Some, None, Option, Ordering, sym, refl, ap, ◌∙◌, arith}
+use Rattle.std.proofs.Common.{◌≡◌, ℕ, zero, suc, ◌<◌, Bool, true, false, not, ◌&&◌, List, [], ◌∷◌, length, get_or, is_some, Some, None, Option, Ordering, sym, refl, ap, ◌∙◌, arith}
 use Rattle.keys.specs.Refusals.{plain}
 use Rattle.ledger.specs.Places.{free}
 use Rattle.ledger.specs.Words.{any, when}

@@ -6,7 +6,7 @@ use Rattle.ledger.specs.Words.{any}
 use Rattle.ledger.specs.declared.place.Place.{Place}
 use Rattle.ledger.specs.declared.place.PlaceState.{PlaceState}
 use Rattle.ledger.specs.declared.place.Report.{Report}
-use Rattle.table.specs.Views.{View, with_places}
+use Rattle.table.specs.Views.{View}
 
 -- does the finish stamp lie below the limit? with no limit every one does
 abbrev pub within : Option ℕ → ℕ → Bool

@@ -1,5 +1,5 @@
 -- Beginning reports and jobs and ending reports: what each answers, and the table afterwards.
-use Rattle.std.specs.Prelude.{ℕ, ◌+◌, List, [], ◌∷◌, ◌++◌, length, Option}
+use Rattle.std.specs.Prelude.{◌+◌, List, [], ◌∷◌, ◌++◌, length, Option}
 use Rattle.keys.specs.Refusals.{Code}
 use Rattle.ledger.specs.Limits.{max_jobs, max_reports}
 use Rattle.ledger.specs.Steps.{fewer_than}

@@ -1,6 +1,6 @@
 -- What reports and jobs find at a key: the place of the version, and its record on the shelf.
 -- A place is told by what it holds, never by which of several it is.
-use Rattle.std.specs.Prelude.{◌≡◌, ℕ, Bool, ◌&&◌, List, [], ◌∷◌, length, Some, None, Option}
+use Rattle.std.specs.Prelude.{◌≡◌, ℕ, Bool, ◌&&◌, List, [], ◌∷◌, Some, None, Option}
 use Rattle.std.specs.declared.cmp.Ordering.{Ordering}
 use Rattle.keys.specs.Refusals.{Code}
 use Rattle.ledger.specs.Laws.{Least}

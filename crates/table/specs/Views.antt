@@ -1,7 +1,6 @@
 -- What a table means: its numbers, and its three lists as lists.
 -- Contracts equate the view at exit with a function of the view at entry, or relate the two.
 use Rattle.std.specs.Prelude.{ℕ, cond, List, [], replicate, None, Ok, Err, vec_items, Option, Result, ◌==◌, slice_index_or}
-use Rattle.keys.specs.Refusals.{Code}
 use Rattle.ledger.specs.Places.{free}
 use Rattle.ledger.specs.declared.call.TicketId.{TicketId}
 use Rattle.ledger.specs.declared.place.Place.{Place}

@@ -1,4 +1,4 @@
-use Rattle.std.proofs.Common.{◌≡◌, ℕ, Bool, not, ◌&&◌, eqb, get_or, Option, sym, ap, ◌∙◌}
+use Rattle.std.proofs.Common.{not, ◌&&◌, eqb, get_or, sym, ap, ◌∙◌}
 use Rattle.ledger.specs.Words.{when}
 use Rattle.std.proofs.lemmas.List.{at_drop_all}
 use Rattle.table.specs.Holds.{other_holder, row_holds}

@@ -1,4 +1,4 @@
-use Rattle.std.proofs.Common.{◌≡◌, Some, sym, ap, ◌∙◌, subst, arith}
+use Rattle.std.proofs.Common.{Some, sym, ap, ◌∙◌, subst, arith}
 use Rattle.table.proofs.Positions.{AtTicket, NoTicket, at_ticket, no_ticket}
 use Rattle.table.proofs.open_list.OpenList.find.Goals as goal
 

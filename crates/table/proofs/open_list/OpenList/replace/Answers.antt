@@ -1,4 +1,4 @@
-use Rattle.std.proofs.Common.{◌≡◌, sym, ap, ◌∙◌, subst, arith}
+use Rattle.std.proofs.Common.{sym, subst, arith}
 use Rattle.table.proofs.Positions.{AtTicket, NoTicket, at_ticket, no_ticket}
 use Rattle.table.proofs.open_list.OpenList.replace.Goals as goal
 

@@ -1,4 +1,4 @@
-use Rattle.std.proofs.Common.{◌≡◌, is_some, sym, ap, ◌∙◌}
+use Rattle.std.proofs.Common.{is_some, ap, ◌∙◌}
 use Rattle.table.specs.Holds.{holds_key}
 use Rattle.table.specs.Rows.{entries_of}
 use Rattle.table.proofs.Positions.{any_position}

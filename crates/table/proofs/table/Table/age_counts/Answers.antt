@@ -1,4 +1,4 @@
-use Rattle.std.proofs.Common.{◌≡◌, count_by, ap, ◌∙◌}
+use Rattle.std.proofs.Common.{count_by, ap, ◌∙◌}
 use Rattle.table.specs.Ageing.{is_freed, is_looked_at}
 use Rattle.table.proofs.table.Table.age_counts.Goals as goal
 

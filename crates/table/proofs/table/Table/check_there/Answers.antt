@@ -1,4 +1,4 @@
-use Rattle.std.proofs.Common.{◌≡◌, Bool, not, Some, None, vec_items, sym, ap}
+use Rattle.std.proofs.Common.{Bool, not, Some, None, vec_items, sym, ap}
 use Rattle.keys.specs.Refusals.{plain}
 use Rattle.ledger.specs.Words.{when}
 use Rattle.table.specs.Checks.{unless}

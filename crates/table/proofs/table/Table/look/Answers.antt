@@ -1,6 +1,5 @@
-use Rattle.std.proofs.Common.{◌≡◌, Some, None, sym, refl, ap, ◌∙◌, subst}
+use Rattle.std.proofs.Common.{◌≡◌, Some, None, sym, refl, ◌∙◌, subst}
 use Rattle.std.proofs.lemmas.Result.{err_from_is_err_and}
-use Rattle.keys.specs.Refusals.{plain}
 use Rattle.table.specs.Holds.{draft_at, entry_at}
 use Rattle.table.specs.Reads.{Sees, held}
 use Rattle.table.specs.Views.{view, open_job}
