@@ -1,5 +1,5 @@
 -- An abort is the ledger's: its row names all of the job's drafts, so turning these frees every draft of the job and nothing else.
-use Rattle.std.proofs.Common.{◌≡◌, ℕ, ◌<◌, Bool, true, false, cond, not, eqb, ◌⊎◌, ◌↔◌, List, [], ◌∷◌, ◌++◌, map, length, get_or, is_some, Some, None, fold, filter, Option, Result, Ordering, sym, refl, ap, ◌∙◌, subst, inl, inr, ⊎_elim}
+use Rattle.std.proofs.Common.{◌≡◌, ℕ, Bool, true, false, cond, eqb, ◌↔◌, List, [], ◌∷◌, ◌++◌, map, get_or, Some, None, fold, filter, Option, Result, Ordering, sym, refl, ap, ◌∙◌, subst, inl, inr, ⊎_elim}
 use lib.ListN.{get_or-map}
 use Rattle.std.specs.List.{flat_map, AllByRecursion as All}
 use Rattle.std.proofs.ByRecursion.{All-weaker}
@@ -24,16 +24,16 @@ use Rattle.table.specs.declared.row.Row.{Row}
 use Rattle.table.specs.Lists.{with_ticket, without_ticket}
 use Rattle.table.specs.Rows.{entries_of}
 use Rattle.table.specs.Views.{View, at, row_number, if_granted, open_job}
-use Rattle.table.specs.Checks.{checked, job_open, row_of}
+use Rattle.table.specs.Checks.{checked, row_of}
 use Rattle.table.specs.Commits.{turned_at, undone, abort_checks, aborted}
 use Rattle.bridge.specs.Answers.{answer_of, exchange}
 use Rattle.bridge.specs.States.{keys_held, jobs_in, state}
 use Rattle.bridge.specs.Soundness.{Apart, SomeOf, DraftOf, CurrentOf, Names, EntryFits, Rows, Sound}
-use Rattle.bridge.proofs.Apart.{Has, differ, some_all, given_kept}
+use Rattle.bridge.proofs.Apart.{Has, differ, given_kept}
 use Rattle.bridge.proofs.Tickets.{others, without_is, kept_others}
 use Rattle.bridge.proofs.Fitting.{SameAt, Unconcerned}
 use Rattle.bridge.proofs.Checks.{keys_of_is, some_mapped, open_row, is_open}
-use Rattle.bridge.proofs.Held.{bool_false, its_entries, its_drafts, its_row}
+use Rattle.bridge.proofs.Held.{bool_false, its_entries, its_drafts}
 use Rattle.bridge.proofs.Turning.{turn, turned_length, turned_once, entries_turn, names_apart, same_places}
 use Rattle.bridge.proofs.Closing.{its_keys, closed_jobs, closed_rows}
 use Rattle.bridge.proofs.Outcomes.{Goes, by_checks}

@@ -1,7 +1,6 @@
 -- Ageing is the ledger's: it counts and frees the same, and since it frees superseded versions alone, no row is concerned.
-use Rattle.std.proofs.Common.{◌≡◌, ℕ, ◌+◌, Bool, true, false, cond, not, ◌&&◌, ltb, ◌↔◌, List, [], ◌∷◌, ◌++◌, map, length, Some, None, count_by, Option, Ordering, sym, refl, ap, ◌∙◌, subst, arith}
+use Rattle.std.proofs.Common.{◌≡◌, ℕ, ◌+◌, Bool, true, false, cond, not, ◌&&◌, ltb, ◌↔◌, List, [], ◌∷◌, map, length, Some, count_by, Ordering, sym, refl, ap, ◌∙◌, arith}
 use lib.ListN.{get_or-map}
-use Rattle.std.specs.List.{AllByRecursion as All}
 use Rattle.std.proofs.lemmas.List.Sums.{sum_by-append, sum_by-cons}
 use Rattle.ledger.specs.declared.call.Call.TheVariants.{Basic}
 use Rattle.ledger.specs.declared.call.BasicCall.TheVariants.{Age}
@@ -17,7 +16,6 @@ use Rattle.ledger.specs.Versions.{Version, finished, wanted}
 use Rattle.ledger.specs.Steps.{version_in, versions_in, place_aged}
 use Rattle.table.specs.Views.{View, at, with_places}
 use Rattle.table.specs.Ageing.{aged, looked_at, freed, is_looked_at, is_freed}
-use Rattle.bridge.specs.States.{control}
 use Rattle.bridge.specs.Soundness.{DraftOf, CurrentOf, Sound}
 use Rattle.bridge.proofs.Apart.{differ}
 use Rattle.bridge.proofs.Fitting.{SameAt, jobs_stay, rows_stay}

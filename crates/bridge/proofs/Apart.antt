@@ -1,8 +1,8 @@
 -- Lists whose elements are all different, and what all or some elements of a list have.
 -- Serves running numbers, and the keys that jobs hold.
-use Rattle.std.proofs.Common.{◌≡◌, ℕ, ◌+◌, ◌<◌, ◌≤◌, Bool, true, false, cond, not, ◌⊎◌, List, [], ◌∷◌, ◌++◌, map, length, filter, sym, refl, ap, ◌∙◌, subst, inl, inr, ⊎_elim, arith}
+use Rattle.std.proofs.Common.{◌≡◌, ℕ, ◌+◌, ◌<◌, Bool, true, false, cond, ◌⊎◌, List, [], ◌∷◌, ◌++◌, map, filter, sym, refl, ap, subst, inl, inr, ⊎_elim, arith}
 use Rattle.std.specs.List.{flat_map, AllByRecursion as All}
-use Rattle.std.proofs.ByRecursion.{All-append, All-push, All-weaker, all_kept_by}
+use Rattle.std.proofs.ByRecursion.{All-append, All-push, All-weaker}
 use Rattle.bridge.specs.Soundness.{Apart, SomeOf, GivenOut}
 
 -- nothing follows from two different numbers that are equal

@@ -1,6 +1,5 @@
 -- The begin of a report and of a job, and the end of a report, are the ledger's.
-use Rattle.std.proofs.Common.{◌≡◌, ℕ, ◌+◌, ◌<◌, ◌≤◌, Bool, true, false, cond, not, List, [], ◌∷◌, ◌++◌, map, length, is_some, Some, None, filter, Option, Result, Ordering, sym, refl, ap, ◌∙◌, subst, zero-le}
-use Rattle.std.specs.List.{flat_map, AllByRecursion as All}
+use Rattle.std.proofs.Common.{◌≡◌, ℕ, List, [], ◌∷◌, ◌++◌, map, Some, None, Option, Result, Ordering, sym, refl, ◌∙◌, subst, zero-le}
 use Rattle.std.proofs.ByRecursion.{All-push}
 use Rattle.std.proofs.lemmas.List.{length-map, length-replicate, map-append, append-nil, flat_map_more}
 use Rattle.keys.specs.Refusals.{told}
@@ -13,12 +12,12 @@ use Rattle.ledger.specs.Refusals.{code}
 use Rattle.ledger.specs.Limits.{row_entries}
 use Rattle.table.specs.declared.row.Row.{Row}
 use Rattle.table.specs.Lists.{with_ticket}
-use Rattle.table.specs.Rows.{no_entry, new_row, entries_of}
+use Rattle.table.specs.Rows.{no_entry, new_row}
 use Rattle.table.specs.Views.{View, if_granted, report_number, row_number, open_report}
 use Rattle.table.specs.Checks.{checked, report_open}
 use Rattle.table.specs.Begins.{begin_report_checks, begin_job_checks, next_ticket, report_opened, job_opened, report_closed}
 use Rattle.bridge.specs.Answers.{answer_of}
-use Rattle.bridge.specs.States.{job_in, jobs_in, control}
+use Rattle.bridge.specs.States.{job_in, jobs_in}
 use Rattle.bridge.specs.Soundness.{Apart, RowFits, Notes, all_keys, Sound}
 use Rattle.bridge.proofs.Apart.{given_one, given_else, given_kept}
 use Rattle.bridge.proofs.Tickets.{without_is, with_more, others}

@@ -1,20 +1,20 @@
 -- What a call checks of the table is what the ledger has it check of the store's state: the look_up of tickets, and who holds a key.
 -- These hold of every table; what depends on soundness (drafts, rows, places) is in Held.
-use Rattle.std.proofs.Common.{◌≡◌, ℕ, zero, suc, ◌<◌, Bool, true, false, cond, not, ◌&&◌, ◌||◌, eqb, List, [], ◌∷◌, ◌++◌, map, length, get_or, is_some, Some, None, Option, Ordering, sym, refl, ap, ◌∙◌, subst, arith}
+use Rattle.std.proofs.Common.{◌≡◌, ℕ, zero, suc, ◌<◌, Bool, true, false, cond, not, ◌&&◌, ◌||◌, eqb, List, [], ◌∷◌, ◌++◌, length, get_or, is_some, Some, None, Option, Ordering, sym, refl, ap, ◌∙◌, subst, arith}
 use Rattle.std.specs.Option.{option_map}
 use Rattle.std.proofs.lemmas.Bool.{eqb-true, not-false}
 use Rattle.keys.specs.Refusals.{Code, plain}
 use Rattle.ledger.specs.declared.call.TicketId.{TicketId}
 use Rattle.ledger.specs.declared.place.Place.{Place}
-use Rattle.ledger.specs.Words.{when, or_else, listed, first, any, same}
-use Rattle.ledger.specs.Places.{is_key, key_of}
-use Rattle.ledger.specs.Control.{Job, stamp_of, keys_of, job_at, has_key, other_holder}
+use Rattle.ledger.specs.Words.{when, listed, first, any, same}
+use Rattle.ledger.specs.Places.{is_key}
+use Rattle.ledger.specs.Control.{stamp_of, keys_of, job_at, has_key, other_holder}
 use Rattle.ledger.specs.Steps.{told_holder}
 use Rattle.table.specs.declared.row.HeldKey.{HeldKey}
 use Rattle.table.specs.declared.row.Row.{Row}
 use Rattle.table.specs.Lists.{position, with_ticket}
 use Rattle.table.specs.Rows.{entries_of, place_of}
-use Rattle.table.specs.Views.{View, at, row_number, report_number, of_store, open_report, open_job}
+use Rattle.table.specs.Views.{View, row_number, report_number, open_report, open_job}
 use Rattle.table.specs.Checks.{sent_back as first_refusal}
 use Rattle.table.specs.Holds.{carries_at, holds_key, row_holds, other_holder as holder_among}
 use Rattle.bridge.specs.States.{key_at, key_held, keys_held, job_in, jobs_in, control}

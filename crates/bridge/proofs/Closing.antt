@@ -1,7 +1,7 @@
 -- A job is closed: the rows of the others stay, and the ledger's jobs are the same but for this one.
 -- Whatever the places become, it is enough that no other row is concerned and that no draft of this job is left.
-use Rattle.std.proofs.Common.{◌≡◌, ℕ, ◌<◌, Bool, true, false, cond, not, eqb, ◌⊎◌, List, [], ◌∷◌, ◌++◌, map, Some, None, filter, Option, sym, refl, ap, ◌∙◌, subst, inl, inr, ⊎_elim}
-use Rattle.std.specs.List.{flat_map, AllByRecursion as All}
+use Rattle.std.proofs.Common.{◌≡◌, ℕ, Bool, true, false, cond, not, eqb, List, [], ◌∷◌, ◌++◌, map, Some, None, filter, Option, sym, refl, ◌∙◌, subst, inl, inr}
+use Rattle.std.specs.List.{AllByRecursion as All}
 use Rattle.std.proofs.ByRecursion.{all_kept_by, All-weaker}
 use Rattle.ledger.specs.declared.place.Place.{Place}
 use Rattle.ledger.specs.Words.{or_else, when, listed}

@@ -1,11 +1,10 @@
 -- A commit is the ledger's: it turns the job's drafts and the current versions of the keys that it drafted, and closes the job.
-use Rattle.std.proofs.Common.{◌≡◌, ℕ, ◌+◌, ◌<◌, ◌≤◌, Bool, true, false, cond, not, eqb, leb, ◌⊎◌, ◌↔◌, List, [], ◌∷◌, ◌++◌, map, length, get_or, is_some, Some, None, fold, filter, Option, Result, Ordering, sym, refl, ap, ◌∙◌, subst, inl, inr, ⊎_elim, arith}
+use Rattle.std.proofs.Common.{◌≡◌, ℕ, ◌+◌, ◌≤◌, Bool, true, false, cond, not, eqb, leb, ◌⊎◌, ◌↔◌, List, [], ◌∷◌, ◌++◌, map, length, get_or, is_some, Some, None, fold, filter, Option, Result, Ordering, sym, refl, ap, ◌∙◌, subst, inl, inr, ⊎_elim, arith}
 use lib.ListN.{get_or-map}
 use Rattle.std.specs.List.{flat_map, AllByRecursion as All}
-use Rattle.std.proofs.ByRecursion.{All-weaker}
 use Rattle.ledger.proofs.Finding.{all_both}
 use Rattle.std.proofs.lemmas.Bool.{eqb-true, eq-eqb, ne_eqb, leb-true, leb-false, both_ways}
-use Rattle.keys.specs.Refusals.{Code, plain, told}
+use Rattle.keys.specs.Refusals.{plain, told}
 use Rattle.keys.specs.Orders.{Total}
 use Rattle.ledger.specs.declared.call.TicketId.{TicketId}
 use Rattle.ledger.specs.declared.call.Call.TheVariants.{Basic}
@@ -29,7 +28,7 @@ use Rattle.table.specs.Lists.{with_ticket, without_ticket}
 use Rattle.table.specs.Rows.{entries_of}
 use Rattle.table.specs.Views.{View, at, row_number, if_granted, open_job}
 use Rattle.table.specs.Checks.{checked, row_of, is_unstamped, sent_back as first_refusal}
-use Rattle.table.specs.Commits.{turned_at, settled, settled_by, commit_checks, committed}
+use Rattle.table.specs.Commits.{settled, settled_by, commit_checks, committed}
 use Rattle.bridge.specs.Answers.{answer_of, exchange}
 use Rattle.bridge.specs.States.{keys_held, jobs_in, state}
 use Rattle.bridge.specs.Soundness.{Apart, SomeOf, DraftOf, CurrentOf, Names, EntryFits, Rows, Sound}
@@ -38,8 +37,7 @@ use Rattle.bridge.proofs.Tickets.{others, without_is, kept_others}
 use Rattle.bridge.proofs.Fitting.{SameAt, Unconcerned}
 use Rattle.bridge.proofs.Checks.{keys_of_is, some_mapped, open_row, is_open}
 use Rattle.bridge.proofs.Versions.{found_is, any_at, any_somewhere, is_draft_at, draft_is, draft_true, true_draft}
-use Rattle.bridge.proofs.Aborts.{draft_key}
-use Rattle.bridge.proofs.Held.{bool_false, its_entries, its_drafts, its_row}
+use Rattle.bridge.proofs.Held.{bool_false, its_entries, its_drafts}
 use Rattle.bridge.proofs.Turning.{turn, turned_length, turned_once, entries_turn, names_apart, same_places}
 use Rattle.bridge.proofs.Closing.{its_keys, drafted_held, rows_off, closed_jobs, closed_rows}
 use Rattle.bridge.proofs.Outcomes.{Goes, by_checks}

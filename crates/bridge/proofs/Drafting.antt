@@ -1,32 +1,29 @@
 -- A draft of a job at a key: in the place that its draft has, or in a free one.
 -- Over its own draft nothing moves but record and mark; in a free place one draft is new, and every other stands where it stood.
-use Rattle.std.proofs.Common.{◌≡◌, ℕ, zero, suc, ◌+◌, ◌<◌, ◌≤◌, Bool, true, false, cond, not, ◌&&◌, eqb, ltb, leb, ◌⊎◌, ◌↔◌, List, [], ◌∷◌, ◌++◌, map, length, get_or, set, is_some, Some, None, Option, Ordering, sym, refl, ap, ◌∙◌, subst, inl, inr, ⊎_elim, arith}
-use Rattle.std.specs.List.{flat_map, AllByRecursion as All}
+use Rattle.std.proofs.Common.{◌≡◌, ℕ, zero, suc, ◌<◌, ◌≤◌, Bool, true, false, cond, ◌⊎◌, ◌↔◌, List, [], ◌∷◌, ◌++◌, map, length, get_or, set, Some, None, Option, Ordering, sym, refl, ap, ◌∙◌, subst, inl, inr, ⊎_elim, arith}
+use Rattle.std.specs.List.{AllByRecursion as All}
 use Rattle.std.proofs.lemmas.List.{length-set, length-map, get_or-set_same, get_or-set_other}
 use Rattle.std.proofs.lemmas.Bool.{eqb-true, eq-eqb, leb-false, both_ways, cases_eq}
 use Rattle.keys.specs.Orders.{Total}
 use Rattle.ledger.specs.declared.place.Place.{Place}
 use Rattle.ledger.specs.declared.place.PlaceState.{PlaceState}
 use Rattle.ledger.specs.declared.place.PlaceState.TheVariants.{Free, Unstamped, Gone, Current, Superseded}
-use Rattle.ledger.specs.declared.place.PlaceEvent.{PlaceEvent}
 use Rattle.ledger.specs.Limits.{row_entries}
 use Rattle.ledger.specs.Words.{any}
-use Rattle.ledger.specs.Places.{free, next, after, key_of, is_free, is_draft_of, is_current}
+use Rattle.ledger.specs.Places.{free, next, after, is_free, is_draft_of, is_current}
 use Rattle.ledger.specs.Control.{has_key}
 use Rattle.ledger.specs.Steps.{draft_event, place_aged}
 use Rattle.table.specs.declared.row.HeldKey.{HeldKey}
 use Rattle.table.specs.declared.row.Row.{Row}
-use Rattle.table.specs.Lists.{with_ticket}
 use Rattle.table.specs.Rows.{no_entry, entries_of, is_row_full, noted}
-use Rattle.table.specs.Views.{View, at, row_number}
+use Rattle.table.specs.Views.{View, at}
 use Rattle.table.specs.Drafts.{turned}
 use Rattle.table.specs.Ageing.{ready}
 use Rattle.bridge.specs.States.{key_held, keys_held, job_in}
-use Rattle.bridge.specs.Soundness.{Apart, SomeOf, DraftOf, CurrentOf, Names, EntryFits, RowFits}
-use Rattle.bridge.proofs.Apart.{Has, differ, some_left, some_right}
-use Rattle.bridge.proofs.Fitting.{SameAt, names_same}
+use Rattle.bridge.specs.Soundness.{Apart, SomeOf, DraftOf, CurrentOf, EntryFits, RowFits}
+use Rattle.bridge.proofs.Apart.{differ, some_left, some_right}
+use Rattle.bridge.proofs.Fitting.{SameAt}
 use Rattle.bridge.proofs.Ages.{aged_same}
-use Rattle.bridge.proofs.Held.{entries_length}
 use Rattle.bridge.proofs.Holding.{more, has_true}
 use Rattle.bridge.proofs.Noting.{one_more, entries_more, entries_set, pushed, put_in}
 

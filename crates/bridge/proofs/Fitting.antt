@@ -1,7 +1,7 @@
 -- Rows stay as they were where places change that do not concern them.
 -- An entry names the only draft of its job at its key and the only current version; so it fits other places, and holds the same key,
 -- as soon as these two stand at the same numbers there. Ageing, a commit, an abort and a new draft differ only in which entries that is true of.
-use Rattle.std.proofs.Common.{◌≡◌, ℕ, ◌⊎◌, ◌↔◌, List, [], ◌∷◌, map, Some, None, Option, sym, refl, ap, ◌∙◌, subst, inl, inr}
+use Rattle.std.proofs.Common.{◌≡◌, ℕ, ◌↔◌, List, [], ◌∷◌, Some, None, Option, sym, refl, ap, ◌∙◌, subst, inl, inr}
 use Rattle.std.specs.List.{AllByRecursion as All}
 use Rattle.ledger.specs.declared.place.Place.{Place}
 use Rattle.ledger.specs.declared.place.PlaceState.{PlaceState}

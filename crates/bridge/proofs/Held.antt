@@ -1,8 +1,7 @@
 -- The row of an open job in a sound table: the draft that it names at a key is the job's only one, and none is left out.
 -- So what the table checks and finds by the row is what the ledger checks and finds among all versions.
-use Rattle.std.proofs.Common.{◌≡◌, ℕ, zero, suc, ◌+◌, ◌<◌, ◌≤◌, min, Bool, true, false, cond, not, ◌&&◌, ◌||◌, eqb, leb, ◌⊎◌, List, [], ◌∷◌, ◌++◌, map, length, get_or, is_some, Some, None, Option, Ordering, unwrap_or, sym, refl, ap, ◌∙◌, subst, inl, inr, ⊎_elim, arith}
+use Rattle.std.proofs.Common.{◌≡◌, ℕ, zero, suc, ◌<◌, min, Bool, true, false, not, ◌&&◌, ◌||◌, List, [], ◌∷◌, length, get_or, is_some, Some, None, Option, Ordering, sym, refl, ◌∙◌, subst, inl, inr, arith}
 use Rattle.std.specs.List.{AllByRecursion as All, slice_get}
-use Rattle.std.specs.Option.{option_map}
 use Rattle.std.proofs.ByRecursion.{All-get_or}
 use Rattle.std.proofs.lemmas.List.{length-take}
 use Rattle.std.proofs.lemmas.Bool.{both_ways}
@@ -11,26 +10,25 @@ use Rattle.ledger.specs.declared.place.Place.{Place}
 use Rattle.ledger.specs.declared.place.PlaceState.{PlaceState}
 use Rattle.ledger.specs.declared.place.PlaceState.TheVariants.{Free}
 use Rattle.ledger.specs.Limits.{row_entries}
-use Rattle.ledger.specs.Words.{when, or_else, listed, first, any}
-use Rattle.ledger.specs.Places.{is_key, key_of}
+use Rattle.ledger.specs.Words.{when, or_else, any}
+use Rattle.ledger.specs.Places.{key_of}
 use Rattle.ledger.specs.Versions.{draft_in, draft_at, has_draft, current_in, current_at, looked, finds_current}
-use Rattle.ledger.specs.Control.{job_at, has_key, row_full}
+use Rattle.ledger.specs.Control.{row_full}
 use Rattle.ledger.specs.Steps.{versions_in}
 use Rattle.table.specs.declared.row.HeldKey.{HeldKey}
 use Rattle.table.specs.declared.row.Row.{Row}
-use Rattle.table.specs.Lists.{position, with_ticket}
+use Rattle.table.specs.Lists.{with_ticket}
 use Rattle.table.specs.Rows.{no_entry, entries_of, place_of, is_row_full, draft_in as entry_draft}
 use Rattle.table.specs.Views.{View, at, row_number}
 use Rattle.table.specs.Checks.{is_unstamped, is_current_of, has_current, record_by}
 use Rattle.table.specs.Reads.{FindsPlace, Sees, record_at}
 use Rattle.table.specs.Holds.{carries_at, holds_key, entry_at, draft_at as row_draft}
-use Rattle.bridge.specs.States.{key_at, key_held, keys_held, jobs_in}
+use Rattle.bridge.specs.States.{key_held, keys_held, jobs_in}
 use Rattle.bridge.specs.Soundness.{SomeOf, DraftOf, CurrentOf, Names, EntryFits, RowFits, Notes, Sound}
-use Rattle.bridge.proofs.Apart.{differ, some_all, some_map}
+use Rattle.bridge.proofs.Apart.{differ, some_map}
 use Rattle.bridge.proofs.Tickets.{found_one}
-use Rattle.bridge.proofs.Fitting.{keys_cons}
 use Rattle.bridge.proofs.Checks.{position_none, position_some, position_any, job_at_is, holds_is, has_key_is}
-use Rattle.bridge.proofs.Versions.{One, any_none, none_any, any_at, below, value_at, records, found_is, found_at, is_draft_at, draft_is, current_is, key_true, true_key, draft_true, true_draft, current_true, true_current}
+use Rattle.bridge.proofs.Versions.{One, any_none, none_any, any_at, below, value_at, records, found_is, found_at, is_draft_at, draft_is, current_is, key_true, true_key, draft_true, true_draft}
 
 pub nth_some : {X : Type 0} (xs : List X) (n : ℕ) → n < length xs → (x : X) × (slice_get xs n ≡ Some x)
 nth_some [] n lt = absurd (omega arith)

@@ -1,14 +1,14 @@
 -- A job comes to hold a key: no key is held twice afterwards, since no other job holds it.
 -- Said of the ledger's jobs; how a row comes by an entry for the key is in Noting.
-use Rattle.std.proofs.Common.{◌≡◌, ℕ, Bool, true, false, cond, not, ◌&&◌, ◌||◌, eqb, ◌⊎◌, List, [], ◌∷◌, ◌++◌, map, Some, None, Option, Ordering, Less, Equal, Greater, sym, refl, ap, ◌∙◌, subst, inl, inr, ⊎_elim}
-use Rattle.std.specs.List.{flat_map, AllByRecursion as All}
+use Rattle.std.proofs.Common.{◌≡◌, ℕ, Bool, true, false, cond, not, ◌&&◌, ◌||◌, eqb, ◌⊎◌, List, [], ◌∷◌, ◌++◌, map, None, Ordering, sym, refl, ap, ◌∙◌, subst, inl, inr, ⊎_elim}
+use Rattle.std.specs.List.{AllByRecursion as All}
 use Rattle.std.proofs.ByRecursion.{All-push}
-use Rattle.std.proofs.lemmas.Bool.{eqb-true, eqb-false, ne_eqb, eq-eqb, both_ways, or_left, or_right}
+use Rattle.std.proofs.lemmas.Bool.{eqb-true, eqb-false, both_ways, or_right}
 use Rattle.keys.specs.Orders.{Total}
-use Rattle.ledger.specs.Words.{when, or_else, any, same}
+use Rattle.ledger.specs.Words.{when, or_else, same}
 use Rattle.ledger.specs.Control.{Job, has_key, other_holder, holding}
 use Rattle.bridge.specs.Soundness.{Apart, all_keys}
-use Rattle.bridge.proofs.Apart.{Has, Off, some_left, some_right, some_parts, off_has, not_has, has_not, apart_parts, apart_join, apart_push, differ}
+use Rattle.bridge.proofs.Apart.{Has, Off, some_left, some_right, some_parts, off_has, has_not, apart_parts, apart_join, apart_push, differ}
 use Rattle.bridge.proofs.Versions.{same_true}
 
 module _ {K : Type 0} (order : K → K → Ordering) (tot : Total order) (k : K) where

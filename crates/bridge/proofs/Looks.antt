@@ -1,22 +1,20 @@
 -- A look is the ledger's: what it answers, and that it takes a hold just where it finds a current version of a key that the job does not hold.
-use Rattle.std.proofs.Common.{◌≡◌, ℕ, ◌+◌, ◌<◌, ◌≤◌, Bool, true, false, cond, not, ◌&&◌, eqb, ◌⊎◌, List, [], ◌∷◌, map, length, get_or, is_some, Some, None, Option, Result, Ordering, sym, refl, ap, ◌∙◌, subst, inl, inr, ⊎_elim}
-use Rattle.std.specs.List.{AllByRecursion as All}
+use Rattle.std.proofs.Common.{◌≡◌, ℕ, Bool, true, false, not, ◌&&◌, eqb, List, [], ◌∷◌, length, get_or, is_some, Some, None, Option, Result, Ordering, sym, refl, ap, ◌∙◌, subst, inl, inr, ⊎_elim}
 use Rattle.std.proofs.lemmas.Bool.{cases_eq}
-use Rattle.keys.specs.Refusals.{Code, plain, told}
+use Rattle.keys.specs.Refusals.{plain, told}
 use Rattle.keys.specs.Orders.{Total}
 use Rattle.ledger.specs.declared.call.TicketId.{TicketId}
 use Rattle.ledger.specs.declared.call.Call.TheVariants.{Basic}
 use Rattle.ledger.specs.declared.call.BasicCall.TheVariants.{Look}
 use Rattle.ledger.specs.declared.answer.Answer.TheVariants.{Record}
 use Rattle.ledger.specs.declared.answer.Refusal.{Refusal}
-use Rattle.ledger.specs.declared.place.Place.{Place}
 use Rattle.ledger.specs.Refusals.{code}
 use Rattle.ledger.specs.Versions.{finds_current}
-use Rattle.ledger.specs.Control.{Control, has_key, holding, held_if}
+use Rattle.ledger.specs.Control.{held_if}
 use Rattle.ledger.specs.Steps.{Granted, versions_in}
 use Rattle.table.specs.declared.row.HeldKey.{HeldKey}
 use Rattle.table.specs.declared.row.Row.{Row}
-use Rattle.table.specs.Lists.{with_ticket, replaced}
+use Rattle.table.specs.Lists.{with_ticket}
 use Rattle.table.specs.Rows.{no_entry, entries_of, is_row_full, noted, draft_in as entry_draft}
 use Rattle.table.specs.Views.{View, at, row_number, with_row, open_job}
 use Rattle.table.specs.Holds.{holds_key, entry_at, draft_at as row_draft, other_holder as holder_among}
@@ -24,13 +22,13 @@ use Rattle.table.specs.Checks.{Outcome, row_of, is_current_of, has_current, job_
 use Rattle.table.specs.Reads.{FindsPlace, record_at, look_checks, Sees, held, Looks}
 use Rattle.bridge.specs.Answers.{answer_of, exchange}
 use Rattle.bridge.specs.Shelves.{Own}
-use Rattle.bridge.specs.States.{keys_held, jobs_in, control, state}
-use Rattle.bridge.specs.Soundness.{DraftOf, CurrentOf, Names, EntryFits, Rows, Sound}
+use Rattle.bridge.specs.States.{keys_held, control, state}
+use Rattle.bridge.specs.Soundness.{DraftOf, CurrentOf, Names, EntryFits, Sound}
 use Rattle.bridge.proofs.Apart.{Has, differ}
 use Rattle.bridge.proofs.Tickets.{numbers_over, replaced_is}
 use Rattle.bridge.proofs.Fitting.{SameAt}
 use Rattle.bridge.proofs.Versions.{One, any_at, current_true, true_current}
-use Rattle.bridge.proofs.Checks.{position_some, position_none, position_any, keys_of_is, open_row, is_open, passes, unmet, shelf_is, no_holder, has_key_is, holder_is}
+use Rattle.bridge.proofs.Checks.{position_none, position_any, keys_of_is, open_row, is_open, passes, unmet, shelf_is, no_holder, has_key_is, holder_is}
 use Rattle.bridge.proofs.Held.{finds_named, its_row, its_drafts, draft_names, row_full_is, sees_is, finds_is}
 use Rattle.bridge.proofs.Holding.{true_has}
 use Rattle.bridge.proofs.Noting.{noted_jobs, noted_rows}

@@ -1,16 +1,16 @@
 -- A job's row with an entry noted: one more, or another in the place of the key's entry.
 -- Afterwards the job holds the key, all else is held as before, and each draft is noted.
-use Rattle.std.proofs.Common.{◌≡◌, ℕ, zero, suc, ◌+◌, ◌<◌, ◌≤◌, min, Bool, true, false, cond, not, ◌&&◌, eqb, ltb, leb, ◌⊎◌, List, [], ◌∷◌, ◌++◌, map, length, get_or, take, set, Some, None, filter, Option, Ordering, sym, refl, ap, ◌∙◌, subst, inl, inr, ⊎_elim, arith}
+use Rattle.std.proofs.Common.{◌≡◌, ℕ, zero, suc, ◌+◌, ◌<◌, min, Bool, true, false, cond, eqb, ◌⊎◌, List, [], ◌∷◌, ◌++◌, map, length, get_or, take, set, Some, None, Ordering, sym, refl, ap, ◌∙◌, subst, inl, ⊎_elim, arith}
 use lib.Seq.{take-set-lt}
-use Rattle.std.specs.List.{flat_map, AllByRecursion as All}
+use Rattle.std.specs.List.{AllByRecursion as All}
 use Rattle.std.proofs.ByRecursion.{All-push}
-use Rattle.std.proofs.lemmas.List.{length-set, length_push, take_more_set}
-use Rattle.std.proofs.lemmas.Bool.{eqb-true, eqb-false, ne_eqb, eq-eqb, leb-false, lt-ltb, both_ways, cases_eq}
+use Rattle.std.proofs.lemmas.List.{take_more_set}
+use Rattle.std.proofs.lemmas.Bool.{eqb-true, eqb-false, leb-false, lt-ltb}
 use Rattle.keys.specs.Orders.{Total}
 use Rattle.ledger.specs.declared.place.Place.{Place}
 use Rattle.ledger.specs.Limits.{row_entries}
 use Rattle.ledger.specs.Words.{listed}
-use Rattle.ledger.specs.Control.{Job, has_key, other_holder, holding}
+use Rattle.ledger.specs.Control.{other_holder, holding}
 use Rattle.ledger.proofs.Finding.{joined_append}
 use Rattle.table.specs.declared.row.HeldKey.{HeldKey}
 use Rattle.table.specs.declared.row.Row.{Row}
@@ -19,7 +19,7 @@ use Rattle.table.specs.Rows.{no_entry, entries_of, is_row_full, noted}
 use Rattle.table.specs.Views.{at, row_number}
 use Rattle.bridge.specs.States.{key_held, keys_held, job_in, jobs_in}
 use Rattle.bridge.specs.Soundness.{Apart, SomeOf, DraftOf, EntryFits, RowFits, Notes, all_keys, Rows}
-use Rattle.bridge.proofs.Apart.{Has, not_has, differ, some_left, some_right}
+use Rattle.bridge.proofs.Apart.{Has, not_has, some_right}
 use Rattle.bridge.proofs.Tickets.{only_one, over, replaced_is, with_over, with_other_over}
 use Rattle.bridge.proofs.Fitting.{SameAt, keys_cons, entry_same, entries_same, row_same}
 use Rattle.bridge.proofs.Held.{entries_length}

@@ -1,14 +1,13 @@
 -- A call whose result is the first refusal of its checks, or else granted, makes the ledger's step:
 -- it is enough that its checks are the ledger's and that, granted, it does what the ledger says.
-use Rattle.std.proofs.Common.{◌≡◌, ℕ, List, [], ◌∷◌, Some, None, Ok, Err, Option, Result, Ordering, sym, refl, ap, ◌∙◌, subst}
+use Rattle.std.proofs.Common.{◌≡◌, ℕ, List, Some, None, Ok, Err, Option, Result, Ordering, sym, refl, ◌∙◌, subst}
 use Rattle.keys.specs.Refusals.{Code, told}
 use Rattle.ledger.specs.declared.call.Call.{Call}
 use Rattle.ledger.specs.declared.answer.Answer.{Answer}
 use Rattle.ledger.specs.declared.answer.Answer.TheVariants.{Refused}
 use Rattle.ledger.specs.declared.answer.Refusal.{Refusal}
 use Rattle.ledger.specs.Refusals.{code}
-use Rattle.ledger.specs.Calls.{Exchange}
-use Rattle.ledger.specs.Steps.{State, Step, Granted, summary, sent_back, all_wanted}
+use Rattle.ledger.specs.Steps.{Step, Granted, summary, sent_back, all_wanted}
 use Rattle.table.specs.Views.{View, if_granted}
 use Rattle.table.specs.Checks.{unless, checked, Outcome, sent_back as first_refusal}
 use Rattle.bridge.specs.Answers.{answer_of, exchange}

@@ -1,10 +1,8 @@
 -- A put and a remove are the ledger's: one argument for both, over what is drafted, a record or none.
-use Rattle.std.proofs.Common.{◌≡◌, ℕ, suc, ◌+◌, ◌<◌, ◌≤◌, Bool, true, false, cond, not, ◌&&◌, ◌||◌, eqb, leb, ◌⊎◌, List, [], ◌∷◌, map, length, get_or, set, is_some, Some, None, Option, Result, Ordering, sym, refl, ap, ◌∙◌, subst, inl, inr, ⊎_elim, arith}
-use Rattle.std.specs.List.{AllByRecursion as All}
+use Rattle.std.proofs.Common.{◌≡◌, ℕ, suc, ◌<◌, true, false, not, ◌&&◌, eqb, ◌⊎◌, List, [], ◌∷◌, length, get_or, set, is_some, Some, None, Option, Result, Ordering, sym, refl, ap, ◌∙◌, subst, inl, inr, ⊎_elim, arith}
 use Rattle.std.proofs.ByRecursion.{All-map, All-weaker}
-use Rattle.std.proofs.lemmas.List.{length-set}
-use Rattle.std.proofs.lemmas.Bool.{eqb-true, cases_eq}
-use Rattle.keys.specs.Refusals.{Code, plain, told}
+use Rattle.std.proofs.lemmas.Bool.{cases_eq}
+use Rattle.keys.specs.Refusals.{plain, told}
 use Rattle.keys.specs.Orders.{Total}
 use Rattle.ledger.specs.declared.call.TicketId.{TicketId}
 use Rattle.ledger.specs.declared.call.Call.TheVariants.{Basic}
@@ -12,19 +10,15 @@ use Rattle.ledger.specs.declared.call.BasicCall.TheVariants.{Put, Remove}
 use Rattle.ledger.specs.declared.answer.Answer.TheVariants.{Done}
 use Rattle.ledger.specs.declared.answer.Refusal.{Refusal}
 use Rattle.ledger.specs.declared.place.Place.{Place}
-use Rattle.ledger.specs.declared.place.PlaceState.{PlaceState}
 use Rattle.ledger.specs.declared.place.PlaceState.TheVariants.{Free}
 use Rattle.ledger.specs.Refusals.{code}
-use Rattle.ledger.specs.Words.{when, any}
-use Rattle.ledger.specs.Places.{free, after, is_free, is_draft_of}
 use Rattle.ledger.specs.Versions.{has_draft}
 use Rattle.ledger.specs.Calls.{drafts}
-use Rattle.ledger.specs.Control.{Job, has_key, other_holder, holding, held_if}
-use Rattle.ledger.specs.Steps.{State, Granted, Moves, Takes, versions_in, draft_event, shelved, all_wanted}
-use Rattle.ledger.specs.Steps.{ready as ledger_ready}
+use Rattle.ledger.specs.Control.{holding, held_if}
+use Rattle.ledger.specs.Steps.{Moves, versions_in, draft_event, shelved}
 use Rattle.table.specs.declared.row.HeldKey.{HeldKey}
 use Rattle.table.specs.declared.row.Row.{Row}
-use Rattle.table.specs.Lists.{with_ticket, replaced}
+use Rattle.table.specs.Lists.{with_ticket}
 use Rattle.table.specs.Rows.{no_entry, entries_of, is_row_full, noted, draft_in as entry_draft}
 use Rattle.table.specs.Views.{View, at, row_number, with_places, with_row, open_job}
 use Rattle.table.specs.Holds.{holds_key, entry_at, draft_at as row_draft, other_holder as holder_among}
@@ -32,16 +26,16 @@ use Rattle.table.specs.Checks.{Outcome, row_of, is_current_of, job_open, shelf_f
 use Rattle.table.specs.Reads.{FindsPlace}
 use Rattle.table.specs.Ageing.{ready}
 use Rattle.table.specs.Drafts.{turned, Room, Placed, again, newly, Drafts, Puts, Removes, put_checks, remove_checks}
-use Rattle.bridge.specs.Answers.{answer_of, exchange}
+use Rattle.bridge.specs.Answers.{answer_of}
 use Rattle.bridge.specs.Shelves.{Own, kept}
 use Rattle.bridge.specs.States.{key_held, keys_held, job_in, jobs_in, control, state}
-use Rattle.bridge.specs.Soundness.{Apart, SomeOf, DraftOf, CurrentOf, Names, EntryFits, RowFits, Rows, Sound}
-use Rattle.bridge.proofs.Apart.{Has, differ}
+use Rattle.bridge.specs.Soundness.{DraftOf, CurrentOf, Names, EntryFits, Sound}
+use Rattle.bridge.proofs.Apart.{Has}
 use Rattle.bridge.proofs.Tickets.{only_one, numbers_over, replaced_is}
 use Rattle.bridge.proofs.Fitting.{SameAt, names_same, jobs_stay, rows_stay}
 use Rattle.bridge.proofs.Versions.{One, below, is_draft_at, key_true, true_draft, current_true, true_current}
-use Rattle.bridge.proofs.Checks.{position_some, position_none, keys_of_is, some_mapped, open_row, is_open, passes, shelf_is, unmet, no_holder, holds_is, has_key_is, position_any, holder_is}
-use Rattle.bridge.proofs.Held.{finds_named, its_row, its_entries, its_drafts, entry_names, draft_names, drafted_is, row_full_is, looked_is}
+use Rattle.bridge.proofs.Checks.{position_some, position_none, keys_of_is, open_row, is_open, passes, shelf_is, unmet, no_holder, holds_is, has_key_is, position_any, holder_is}
+use Rattle.bridge.proofs.Held.{finds_named, its_row, its_drafts, draft_names, drafted_is, row_full_is, looked_is}
 use Rattle.bridge.proofs.Closing.{its_keys, drafted_held}
 use Rattle.bridge.proofs.Holding.{hold_same}
 use Rattle.bridge.proofs.Noting.{noted_jobs, noted_rows}

@@ -1,6 +1,6 @@
 -- What a run says of the table that it led to: the shelf is as long as the places, and at most one place has what a report sees at a key,
 -- and at most one the key's current version. The ledger counts versions; here they are counted in places.
-use Rattle.std.proofs.Common.{◌≡◌, ℕ, zero, suc, ◌+◌, ◌<◌, ◌≤◌, Bool, true, false, cond, ◌&&◌, List, [], ◌∷◌, length, is_some, Some, None, count_by, Option, Ordering, sym, refl, ap, ◌∙◌, subst, arith}
+use Rattle.std.proofs.Common.{◌≡◌, ℕ, zero, suc, ◌+◌, ◌≤◌, Bool, true, false, cond, List, [], ◌∷◌, length, is_some, Some, None, count_by, Option, Ordering, sym, refl, ap, ◌∙◌, subst, arith}
 use Rattle.std.proofs.lemmas.List.Sums.{sum_by-cons}
 use Rattle.keys.specs.Orders.{Total}
 use Rattle.ledger.specs.declared.place.Place.{Place}

@@ -1,11 +1,10 @@
 -- A read and a walk are the ledger's.
 -- At most one place has what a report sees at a key, so the record of any such place is the ledger's; and a walk goes by the keys of such places.
-use Rattle.std.proofs.Common.{◌≡◌, ℕ, zero, suc, ◌<◌, Bool, true, false, cond, not, ◌&&◌, eqb, ◌⊎◌, List, [], ◌∷◌, ◌++◌, length, is_some, Some, None, Option, Result, Ordering, unwrap_or, sym, refl, ap, ◌∙◌, subst, inl, inr, ⊎_elim, arith}
+use Rattle.std.proofs.Common.{◌≡◌, ℕ, zero, suc, Bool, true, false, not, ◌&&◌, eqb, List, [], ◌∷◌, ◌++◌, length, Some, None, Option, Result, Ordering, unwrap_or, sym, refl, ap, ◌∙◌, inl, inr, arith}
 use Rattle.std.specs.List.{AllByRecursion as All}
-use Rattle.std.specs.Option.{option_map}
-use Rattle.std.proofs.ByRecursion.{All-append, All-weaker}
+use Rattle.std.proofs.ByRecursion.{All-append}
 use Rattle.std.proofs.lemmas.Bool.{and_parts, and_from, both_ways}
-use Rattle.keys.specs.Refusals.{Code, plain, told}
+use Rattle.keys.specs.Refusals.{plain, told}
 use Rattle.keys.specs.Orders.{Total}
 use Rattle.ledger.specs.declared.call.TicketId.{TicketId}
 use Rattle.ledger.specs.declared.call.Call.TheVariants.{Basic, Walk}
@@ -16,24 +15,24 @@ use Rattle.ledger.specs.declared.place.Place.{Place}
 use Rattle.ledger.specs.declared.place.PlaceState.{PlaceState}
 use Rattle.ledger.specs.declared.place.PlaceState.TheVariants.{Free, Unstamped, Gone, Current, Superseded}
 use Rattle.ledger.specs.Refusals.{code}
-use Rattle.ledger.specs.Words.{when, listed, picked, any, less, beyond, least}
+use Rattle.ledger.specs.Words.{when, listed, less, beyond, least}
 use Rattle.ledger.specs.Places.{key_of, carries, is_seen_at, spans}
-use Rattle.ledger.specs.Versions.{Version, committed, seen_in, seen_at, key_seen_in, keys_seen}
+use Rattle.ledger.specs.Versions.{Version, seen_in, seen_at, key_seen_in, keys_seen}
 use Rattle.ledger.specs.Control.{stamp_of}
-use Rattle.ledger.specs.Steps.{Granted, version_in, versions_in}
+use Rattle.ledger.specs.Steps.{version_in, versions_in}
 use Rattle.ledger.specs.Laws.{Least}
 use Rattle.ledger.proofs.Leasts.{In, least_is}
 use Rattle.table.specs.Views.{View, at, open_report}
-use Rattle.table.specs.Checks.{Outcome, report_open, shelf_fits, sent_back as first_refusal}
-use Rattle.table.specs.Reads.{FindsPlace, record_at, sight, read_checks, walk_checks, is_seen_of, is_visible, Reads, Walks}
-use Rattle.bridge.specs.Answers.{answer_of, exchange}
+use Rattle.table.specs.Checks.{Outcome, report_open, shelf_fits}
+use Rattle.table.specs.Reads.{record_at, sight, read_checks, walk_checks, is_seen_of, is_visible, Reads, Walks}
+use Rattle.bridge.specs.Answers.{answer_of}
 use Rattle.bridge.specs.Shelves.{Own}
-use Rattle.bridge.specs.States.{control, state}
+use Rattle.bridge.specs.States.{control}
 use Rattle.bridge.specs.Soundness.{Sound}
 use Rattle.bridge.proofs.Apart.{differ}
 use Rattle.bridge.proofs.Versions.{One, any_at, any_somewhere, found_at, records, seen_is, key_true, true_key}
 use Rattle.bridge.proofs.Checks.{stamp_of_is, some_mapped, passes, unmet, shelf_is}
-use Rattle.bridge.proofs.Outcomes.{Goes, met, by_outcome}
+use Rattle.bridge.proofs.Outcomes.{Goes, by_outcome}
 
 module _ {K R : Type 0} (order : K → K → Ordering) (tot : Total order) (v : View K) (own : List R) (s : Sound v) (long : length own ≡ length v.places) (t : TicketId) where
   -- the stamp that the report sees

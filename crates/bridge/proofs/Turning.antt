@@ -1,20 +1,19 @@
 -- A commit and an abort turn one place after another, as the entries of a row name them.
 -- The places are all different, since the keys that the row holds are; so each is turned once, and all others stay.
-use Rattle.std.proofs.Common.{◌≡◌, ℕ, ◌<◌, ◌≤◌, Bool, true, false, cond, eqb, ◌⊎◌, List, [], ◌∷◌, ◌++◌, map, length, get_or, set, Some, None, fold, Option, sym, refl, ap, ◌∙◌, subst, inl, inr, ⊎_elim, arith}
+use Rattle.std.proofs.Common.{◌≡◌, ℕ, Bool, true, false, eqb, ◌⊎◌, List, [], ◌∷◌, ◌++◌, map, length, get_or, Some, fold, Option, sym, refl, ap, ◌∙◌, subst, inl, inr, ⊎_elim, arith}
 use Rattle.std.specs.List.{flat_map, AllByRecursion as All}
 use Rattle.std.proofs.ByRecursion.{All-append, All-weaker}
 use Rattle.std.proofs.lemmas.List.{length-set, get_or-set_same, get_or-set_other, get_or_past, length-map, same_lists, get_or-map, get_or_default}
 use Rattle.std.proofs.lemmas.Bool.{eqb-true, eqb-false, cases_lt}
 use Rattle.ledger.specs.declared.place.Place.{Place}
-use Rattle.ledger.specs.declared.place.PlaceState.{PlaceState}
 use Rattle.ledger.specs.declared.place.PlaceEvent.{PlaceEvent}
-use Rattle.ledger.specs.Places.{free, after, next, key_of}
+use Rattle.ledger.specs.Places.{free, after, key_of}
 use Rattle.table.specs.declared.row.HeldKey.{HeldKey}
 use Rattle.table.specs.Views.{at}
 use Rattle.table.specs.Drafts.{turned}
 use Rattle.bridge.specs.States.{keys_held}
 use Rattle.bridge.specs.Soundness.{Apart, EntryFits}
-use Rattle.bridge.proofs.Apart.{Has, Off, some_all, some_left, some_right, some_parts, all_parts, not_has, has_not, apart_join, differ}
+use Rattle.bridge.proofs.Apart.{Has, some_all, not_has, has_not, apart_join}
 use Rattle.bridge.proofs.Fitting.{keys_cons}
 
 -- the event at the place, and at one place after the other

@@ -1,16 +1,16 @@
 -- What is found among the versions of a store, by its places.
 -- A look-up of the ledger (a job's draft, a key's current version, what a report sees) is a test of places; where one place at most passes it,
 -- the record of any place that passes is what the ledger finds.
-use Rattle.std.proofs.Common.{◌≡◌, ℕ, zero, suc, ◌+◌, ◌<◌, ◌≤◌, Bool, true, false, cond, not, ◌&&◌, ◌||◌, eqb, ltb, leb, ◌⊎◌, List, [], ◌∷◌, ◌++◌, map, length, get_or, is_some, Some, None, Option, Ordering, Less, Equal, Greater, sym, refl, ap, ◌∙◌, subst, inl, inr, ⊎_elim, suc-le-suc, zero-le, arith}
+use Rattle.std.proofs.Common.{◌≡◌, ℕ, zero, suc, ◌<◌, Bool, true, false, ◌&&◌, ◌||◌, List, [], ◌∷◌, ◌++◌, length, is_some, Some, None, Option, Ordering, Less, Equal, Greater, sym, refl, ap, ◌∙◌, suc-le-suc, zero-le, arith}
 use Rattle.std.specs.List.{slice_get}
 use Rattle.std.specs.Option.{option_map}
-use Rattle.std.proofs.lemmas.Bool.{eqb-true, eq-eqb, and_parts, and_from, both_ways, or_parts}
+use Rattle.std.proofs.lemmas.Bool.{and_parts, and_from, or_parts}
 use Rattle.keys.specs.Orders.{Total}
 use Rattle.ledger.specs.declared.place.Place.{Place}
 use Rattle.ledger.specs.declared.place.PlaceState.{PlaceState}
 use Rattle.ledger.specs.declared.place.PlaceState.TheVariants.{Free, Unstamped, Gone, Current, Superseded}
 use Rattle.ledger.specs.Words.{when, or_else, listed, first, any, same}
-use Rattle.ledger.specs.Places.{free, key_of, is_key, carries, is_draft_of, is_current, is_seen_at, spans}
+use Rattle.ledger.specs.Places.{key_of, is_key, carries, is_draft_of, is_current, spans}
 use Rattle.ledger.specs.Versions.{Version, draft, committed, draft_in, current_in, seen_in}
 use Rattle.ledger.specs.Steps.{version_in, versions_in}
 use Rattle.table.specs.Views.{at}

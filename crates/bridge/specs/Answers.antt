@@ -1,5 +1,5 @@
 -- Calls with their answers, as the ledger records them, from the results of the store's methods.
-use Rattle.std.specs.Prelude.{ℕ, Ok, Err, Option, Result}
+use Rattle.std.specs.Prelude.{ℕ, Ok, Err, Result}
 use Rattle.ledger.specs.declared.call.Call.{Call}
 use Rattle.ledger.specs.declared.answer.Answer.{Answer}
 use Rattle.ledger.specs.declared.answer.Answer.TheVariants.{Refused}

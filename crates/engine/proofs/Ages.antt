@@ -1,16 +1,13 @@
 -- Ageing place by place: after n places the first n are aged and the others as they were.
 -- Ageing changes no report, and a place that is not aged yet is still what it was, so each step is one of the whole map.
-use Rattle.std.proofs.Common.{◌≡◌, ℕ, ◌+◌, ◌-◌, ◌<◌, ◌≤◌, Bool, true, false, cond, not, ◌&&◌, List, [], ◌++◌, map, length, get_or, take, drop, set, None, Option, sym, refl, ap, ◌∙◌, subst, arith}
-use Rattle.ledger.specs.Places.{free, is_finished, is_free, is_wanted}
+use Rattle.std.proofs.Common.{◌≡◌, ℕ, ◌+◌, ◌-◌, ◌<◌, ◌≤◌, List, ◌++◌, map, length, get_or, take, drop, set, Option, ap, ◌∙◌, arith}
+use Rattle.ledger.specs.Places.{free}
 use Rattle.ledger.specs.Steps.{place_aged}
 use Rattle.ledger.specs.declared.place.Place.{Place}
-use Rattle.ledger.specs.declared.place.PlaceState.{PlaceState}
-use Rattle.ledger.specs.declared.place.PlaceState.TheVariants.{Free, Unstamped, Gone, Current, Superseded}
-use Rattle.ledger.specs.declared.place.Report.{Report}
 use Rattle.std.proofs.lemmas.List.Edits.{map_over_more}
-use Rattle.std.proofs.lemmas.List.{append-nil, drop_all, get_or-append_right, get_or_default, get_or-drop, get_or-map, length-append, length-drop, length-map, length-take, length-take-le, take_all}
+use Rattle.std.proofs.lemmas.List.{append-nil, drop_all, get_or-append_right, get_or_default, get_or-drop, length-append, length-drop, length-map, length-take, length-take-le, take_all}
 use Rattle.table.specs.Ageing.{aged, within}
-use Rattle.table.specs.Views.{View, at, with_places}
+use Rattle.table.specs.Views.{View, with_places}
 
 part_length : {X : Type 0} (f : X → X) (n : ℕ) (xs : List X) → n ≤ length xs → length (map f (take n xs) ++ drop n xs) ≡ length xs
 part_length f n xs h = simp (length-append, length-map, length-take, length-drop) (omega arith)

@@ -2,18 +2,17 @@
 -- Every number stays right: a place that takes a key up has no number yet or one of that very key, so adding the key with its
 -- number is granted or finds the key numbered already; a place that becomes free gives its number back. A number that was given
 -- back is the only way for a key to lose its own, and adding every carried key once more makes that good.
-use Rattle.std.proofs.Common.{◌≡◌, ℕ, zero, suc, ◌+◌, ◌<◌, ◌≤◌, Bool, true, false, ◌||◌, ◌⊎◌, List, [], ◌∷◌, length, get_or, set, is_ok, Some, None, Ok, Err, vec_items, Option, Result, Ordering, sym, refl, ap, ◌∙◌, subst, inl, inr, ⊎_elim, arith}
+use Rattle.std.proofs.Common.{◌≡◌, ℕ, zero, suc, ◌+◌, ◌<◌, ◌≤◌, Bool, true, false, ◌||◌, List, [], ◌∷◌, length, set, is_ok, Some, None, vec_items, Option, Ordering, sym, refl, ap, ◌∙◌, subst, ⊎_elim, arith}
 use Rattle.engine.specs.Agreement.{Agree, AgreeBut, Indexed, IndexedBut, Keeps, KeepsBut, loses, told_of}
 use Rattle.engine.specs.declared.store.Store.{Store}
 use Rattle.index.proofs.Nth.{nth_set_same, nth_set_other, nth_within}
-use Rattle.index.proofs.Slots.{add_told, maps_cleared, maps_set, number_maps}
-use Rattle.index.specs.Slots.{Maps, add_answer, add_by, added, discard_answer, discard_by, discarded, if_granted, number_of}
+use Rattle.index.proofs.Slots.{maps_cleared, maps_set, number_maps}
+use Rattle.index.specs.Slots.{Maps, add_by, added, discard_answer, discard_by, discarded, if_granted, number_of}
 use Rattle.keys.specs.Orders.{Total}
-use Rattle.keys.specs.Refusals.{Code, plain}
 use Rattle.ledger.specs.Places.{free, key_of}
 use Rattle.ledger.specs.declared.place.Place.{Place}
 use Rattle.std.proofs.lemmas.List.{get_or-set_other, get_or-set_same, length-set}
-use Rattle.std.proofs.lemmas.Bool.{cases_eq, or_parts}
+use Rattle.std.proofs.lemmas.Bool.{cases_eq}
 use Rattle.std.specs.List.{slice_get}
 use Rattle.table.specs.Views.{at}
 use Rattle.engine.proofs.KeysKept.{clash, same_some}

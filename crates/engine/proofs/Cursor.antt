@@ -7,8 +7,8 @@ use Rattle.index.specs.Ordered.{Beyond, LeastBeyond, least}
 use Rattle.index.specs.Slots.{Maps}
 use Rattle.keys.specs.Orders.{Total}
 use Rattle.ledger.specs.Laws.{Least}
-use Rattle.ledger.specs.Words.{beyond, less}
-use Rattle.std.proofs.lemmas.Bool.{and_parts, both_ways, cases_Bool}
+use Rattle.ledger.specs.Words.{beyond}
+use Rattle.std.proofs.lemmas.Bool.{and_parts, both_ways}
 use Rattle.std.specs.Ordering.{is_lt}
 
 lt_true : (o : Ordering) → is_lt o ≡ true → o ≡ Less

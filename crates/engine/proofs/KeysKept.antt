@@ -1,5 +1,5 @@
 -- An event frees a place or leaves its key as it was; only a free place takes a key up.
-use Rattle.std.proofs.Common.{◌≡◌, ℕ, Some, None, Option, sym, refl, ◌∙◌, arith}
+use Rattle.std.proofs.Common.{◌≡◌, ℕ, Some, None, sym, ◌∙◌, arith}
 use Rattle.ledger.specs.Places.{key_of, next}
 use Rattle.ledger.specs.declared.place.PlaceEvent.{PlaceEvent}
 use Rattle.ledger.specs.declared.place.PlaceEvent.TheVariants.{Put, Remove, Commit, Abort, Age}

@@ -1,6 +1,6 @@
 -- Marking the numbers of visible keys, place by place. A place that the report sees marks the number of its key, which is the
 -- only number of that key and of no other; so after each place the mark of a number says whether some place so far shows its key.
-use Rattle.std.proofs.Common.{◌≡◌, ℕ, zero, suc, ◌+◌, ◌<◌, Bool, true, false, cond, ◌&&◌, ◌||◌, List, [], ◌∷◌, ◌++◌, length, get_or, take, set, replicate, IfSome, Some, None, Option, Ordering, Less, Equal, Greater, sym, refl, ap, ◌∙◌, subst, ⊎_elim, arith}
+use Rattle.std.proofs.Common.{◌≡◌, ℕ, zero, suc, ◌+◌, ◌<◌, Bool, true, false, cond, ◌&&◌, ◌||◌, List, [], ◌∷◌, ◌++◌, length, get_or, take, replicate, IfSome, Some, None, Option, Ordering, Less, Equal, Greater, sym, refl, ap, ◌∙◌, subst, ⊎_elim, arith}
 use Rattle.engine.specs.Walking.{Marks, marked, number_at, seen_key}
 use Rattle.index.proofs.Slots.{number_hit, number_maps, one_key}
 use Rattle.index.specs.Slots.{Apart, Maps, number_of}

@@ -1,12 +1,11 @@
 -- A store that was just opened: no key has a number, and no place carries a key.
-use Rattle.std.proofs.Common.{◌≡◌, ℕ, zero, suc, ◌≤◌, List, length, get_or, replicate, Some, Option, sym, refl, ap, ◌∙◌, arith}
+use Rattle.std.proofs.Common.{◌≡◌, ℕ, zero, suc, ◌≤◌, List, length, replicate, Option, sym, refl, ap, ◌∙◌, arith}
 use lib.ListN.{length-replicate}
 use Rattle.engine.specs.Agreement.{Agree}
 use Rattle.engine.proofs.KeysKept.{clash}
 use Rattle.index.proofs.Slots.{count_fewer}
-use Rattle.index.specs.Slots.{Maps, count_of}
+use Rattle.index.specs.Slots.{count_of}
 use Rattle.ledger.specs.Places.{free, key_of}
-use Rattle.ledger.specs.declared.place.Place.{Place}
 use Rattle.ledger.specs.declared.place.PlaceState.TheVariants.{Free}
 use Rattle.table.specs.Views.{at}
 

@@ -1,10 +1,9 @@
 -- Room for a new draft: a free place, or one that ageing frees. A place that is not wanted and not free holds a superseded
 -- version that no report needs, so ageing all frees it; where every place is wanted there is none of either kind.
-use Rattle.std.proofs.Common.{◌≡◌, ℕ, zero, suc, ◌<◌, Bool, true, false, cond, not, ◌&&◌, ◌||◌, List, [], ◌∷◌, length, get_or, None, sym, refl, ap, ◌∙◌, subst, arith}
+use Rattle.std.proofs.Common.{◌≡◌, ℕ, zero, suc, ◌<◌, Bool, true, false, not, ◌&&◌, List, [], ◌∷◌, length, get_or, None, sym, refl, ap, ◌∙◌, subst, arith}
 use Rattle.ledger.specs.Places.{free, is_free, is_wanted}
 use Rattle.ledger.specs.Steps.{all_wanted, place_aged}
 use Rattle.ledger.specs.Words.{any, every}
-use Rattle.ledger.specs.declared.place.Place.{Place}
 use Rattle.ledger.specs.declared.place.PlaceState.{PlaceState}
 use Rattle.ledger.specs.declared.place.PlaceState.TheVariants.{Free, Unstamped, Gone, Current, Superseded}
 use Rattle.ledger.specs.declared.place.Report.{Report}
@@ -13,7 +12,7 @@ use Rattle.std.proofs.lemmas.Bool.{and_left, and_right, both_ways, not-true, or_
 use Rattle.table.proofs.Seeing.{any_at}
 use Rattle.table.specs.Ageing.{aged, ready, within}
 use Rattle.table.specs.Drafts.{Room}
-use Rattle.table.specs.Views.{View, at, with_places}
+use Rattle.table.specs.Views.{View, at}
 
 every_not : {X : Type 0} (test : X → Bool) (xs : List X) (n : ℕ) (d : X) → n < length xs → test (get_or xs n d) ≡ false → every test xs ≡ false
 every_not test [] n d below off = absurd (omega arith)

@@ -21,8 +21,6 @@ use Rattle.table.specs.Ageing.{aged, looked_at, freed}
 use Rattle.engine.specs.declared.store.Store.{Store}
 use Rattle.engine.specs.Agreement.{Indexed, Keeps, Unchanged}
 use Rattle.bridge.specs.Answers.{answer_of}
-use Rattle.bridge.specs.Shelves.{Own, kept}
-use Rattle.bridge.specs.Soundness.{Sound}
 use Rattle.bridge.proofs.Outcomes.{Goes}
 use Rattle.bridge.proofs.Checks.{passes, unmet, shelf_is}
 use Rattle.bridge.proofs.Begins.{begin_report_goes, begin_job_goes, end_goes}

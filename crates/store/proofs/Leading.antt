@@ -1,14 +1,13 @@
 -- A list of calls leads on by one call: its step joins the run, soundness and agreement are kept, and so the law of runs holds of the longer list.
-use Rattle.std.proofs.Common.{◌≡◌, List, ◌∷◌, length, Option, Ordering, sym, refl, ap, ◌∙◌, subst}
+use Rattle.std.proofs.Common.{◌≡◌, List, ◌∷◌, length, Option, Ordering, sym, subst}
 use Rattle.keys.specs.Orders.{Total}
 use Rattle.ledger.specs.declared.call.Call.{Call}
 use Rattle.ledger.specs.declared.answer.Answer.{Answer}
-use Rattle.ledger.specs.declared.place.Place.{Place}
 use Rattle.ledger.specs.Steps.{Run}
 use Rattle.ledger.proofs.Whole.{law_of_runs}
 use Rattle.table.specs.Views.{view}
 use Rattle.engine.specs.declared.store.Store.{Store}
-use Rattle.engine.specs.Agreement.{Agree, Indexed, Keeps}
+use Rattle.engine.specs.Agreement.{Agree, Keeps}
 use Rattle.bridge.specs.Answers.{exchange}
 use Rattle.bridge.specs.Shelves.{Own, kept}
 use Rattle.bridge.specs.States.{state}
@@ -16,7 +15,7 @@ use Rattle.bridge.specs.Soundness.{Sound}
 use Rattle.bridge.proofs.Outcomes.{Goes}
 use Rattle.bridge.proofs.Reached.{Reached, reached}
 use Rattle.bridge.proofs.Shelves.{kept_same}
-use Rattle.store.specs.Law.{Led, LeadsOn}
+use Rattle.store.specs.Law.{LeadsOn}
 
 -- a call that leaves the index and the places alone keeps them in agreement
 pub keeps_same : {I K : Type 0} (sound : I → Type 0) (slots : I → List (Option K)) (s s' : Store I K) → s'.index ≡ s.index → (view s'.table).places ≡ (view s.table).places → Keeps sound slots s s'

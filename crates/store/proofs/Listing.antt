@@ -2,7 +2,7 @@
 -- The shelf that is handed over is the store's own all along, or it has another length and is left alone by every call.
 use Rattle.std.proofs.Common.{◌≡◌, ℕ, zero, suc, ◌+◌, ◌<◌, Bool, true, false, cond, eqb, List, [], ◌∷◌, length, get_or, take, drop, set, Option, Ordering, sym, refl, ap, ◌∙◌, subst, arith, length-set}
 use Rattle.std.proofs.lemmas.List.{drop-drop, drop-set-lt}
-use Rattle.std.proofs.lemmas.Bool.{eqb-true, eqb-false, eq-eqb}
+use Rattle.std.proofs.lemmas.Bool.{eqb-true, eq-eqb}
 use Rattle.keys.specs.Orders.{Total}
 use Rattle.ledger.specs.declared.call.BasicCall.{BasicCall}
 use Rattle.ledger.specs.declared.call.Call.TheVariants.{Basic}

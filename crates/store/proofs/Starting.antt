@@ -1,5 +1,5 @@
 -- A store at opening: the empty list of calls led to it, and its table is sound.
-use Rattle.std.proofs.Common.{◌≡◌, ℕ, zero, suc, ◌≤◌, Bool, true, false, not, ◌&&◌, leb, List, [], ◌∷◌, length, replicate, IfOk, Some, None, Ok, Err, Option, Result, Ordering, sym, refl, ap, ◌∙◌, subst}
+use Rattle.std.proofs.Common.{◌≡◌, ℕ, zero, suc, ◌≤◌, Bool, true, false, not, ◌&&◌, leb, List, [], ◌∷◌, replicate, IfOk, Ok, Err, Option, Result, Ordering, sym, refl, subst}
 use Rattle.std.proofs.lemmas.Bool.{leb-true}
 use Rattle.keys.specs.Refusals.{plain}
 use Rattle.ledger.specs.declared.place.PlaceState.TheVariants.{Free}

@@ -1,5 +1,5 @@
 -- The law over a whole list of calls that one call of this crate makes, one after another.
-use Rattle.std.specs.Prelude.{◌≡◌, ℕ, List, [], ◌∷◌, length, Option}
+use Rattle.std.specs.Prelude.{ℕ, List, [], ◌∷◌, length, Option}
 use Rattle.std.specs.declared.cmp.Ordering.{Ordering}
 use Rattle.ledger.specs.declared.call.BasicCall.{BasicCall}
 use Rattle.ledger.specs.declared.call.Call.TheVariants.{Basic}

@@ -1,4 +1,4 @@
-use Rattle.std.proofs.Common.{◌≡◌, ◌+◌, Some, None, sym, ap, ◌∙◌, subst}
+use Rattle.std.proofs.Common.{◌≡◌, ◌+◌, sym, ap, ◌∙◌, subst}
 use Rattle.ledger.specs.Places.{free, key_of}
 use Rattle.std.proofs.lemmas.List.{get_or_read}
 use Rattle.table.specs.Views.{at}

@@ -1,4 +1,4 @@
-use Rattle.std.proofs.Common.{◌≡◌, true, sym, ap, ◌∙◌}
+use Rattle.std.proofs.Common.{true, sym, ap, ◌∙◌}
 use Rattle.engine.specs.Walking.{marked}
 use Rattle.std.proofs.lemmas.List.{set_past}
 use Rattle.engine.proofs.walk.mark.Goals as goal

@@ -1,4 +1,4 @@
-use Rattle.std.proofs.Common.{◌≡◌, ◌+◌, Bool, false, length, take, IfSome, Some, None, Option, sym, refl, ap, ◌∙◌, subst}
+use Rattle.std.proofs.Common.{◌≡◌, ◌+◌, length, take, IfSome, Some, None, Option, sym, refl, ap, ◌∙◌, subst}
 use Rattle.engine.specs.Opening.{max_places}
 use Rattle.engine.specs.Walking.{Marks, marked, number_at, seen_key}
 use Rattle.index.specs.Slots.{Apart}

@@ -1,5 +1,5 @@
 -- A walk changes nothing and leads on by what the engine promises of it; every other call is asked as on any index.
-use Rattle.std.proofs.Common.{◌≡◌, sym, refl, subst}
+use Rattle.std.proofs.Common.{sym, refl, subst}
 use Rattle.store.specs.Law.{LeadsOn}
 use Rattle.store.proofs.Called.{walk_leads}
 use Rattle.store.proofs.ordered.ask_ordered.Goals as goal

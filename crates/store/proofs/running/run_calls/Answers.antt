@@ -1,5 +1,5 @@
 -- Each turn makes one more call of the list; after the last one the whole list has led on.
-use Rattle.std.proofs.Common.{◌≡◌, ℕ, ◌+◌, ◌<◌, ◌≤◌, min, length, sym, subst, arith, rules}
+use Rattle.std.proofs.Common.{◌≡◌, ◌+◌, ◌<◌, length, sym, subst, arith, rules}
 use Rattle.store.proofs.Listing.{SoFar, all_made, one_more}
 use Rattle.store.proofs.running.run_calls.Goals as goal
 

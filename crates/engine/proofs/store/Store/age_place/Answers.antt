@@ -1,4 +1,4 @@
-use Rattle.std.proofs.Common.{◌≡◌, Bool, false, cond, get_or, set, vec_items, sym, refl, ap, ◌∙◌}
+use Rattle.std.proofs.Common.{◌≡◌, false, cond, get_or, set, vec_items, sym, ap, ◌∙◌}
 use Rattle.ledger.specs.Places.{after, free}
 use Rattle.ledger.specs.declared.place.PlaceEvent.TheVariants.{Age}
 use Rattle.std.proofs.lemmas.List.{set-get_or}

@@ -1,4 +1,4 @@
-use Rattle.std.proofs.Common.{◌≡◌, ◌<◌, ◌≤◌, length, vec_items, refl, ◌∙◌, arith, rules}
+use Rattle.std.proofs.Common.{◌<◌, ◌≤◌, length, vec_items, refl, ◌∙◌, rules}
 use Rattle.table.specs.Views.{view}
 use Rattle.engine.proofs.Ages.{aged_more, aged_all}
 use Rattle.engine.proofs.Agreeing.{keeps_more, keeps_all, keeps_relisted}

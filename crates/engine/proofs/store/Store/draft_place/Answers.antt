@@ -1,15 +1,14 @@
-use Rattle.std.proofs.Common.{◌≡◌, Bool, not, ◌&&◌, get_or, is_some, Some, None, vec_items, Option, sym, refl, ap, ◌∙◌, subst}
+use Rattle.std.proofs.Common.{◌≡◌, not, ◌&&◌, is_some, Some, None, Option, sym, refl, ap, ◌∙◌, subst}
 use Rattle.keys.specs.Refusals.{Code, plain}
 use Rattle.ledger.specs.Steps.{all_wanted}
 use Rattle.ledger.specs.Words.{or_else, when}
 use Rattle.table.proofs.Checking.{passed, passes}
-use Rattle.table.specs.Ageing.{ready}
 use Rattle.table.specs.Checks.{is_current_of}
 use Rattle.table.specs.Drafts.{newly}
 use Rattle.table.specs.Holds.{draft_at, entry_at}
 use Rattle.table.specs.Reads.{FindsPlace}
 use Rattle.table.specs.Rows.{is_row_full, noted}
-use Rattle.table.specs.Views.{view, with_places, with_row}
+use Rattle.table.specs.Views.{view, with_row}
 use Rattle.engine.specs.Agreement.{Agree}
 use Rattle.engine.proofs.store.Store.draft_place.Goals as goal
 

@@ -1,8 +1,7 @@
-use Rattle.std.proofs.Common.{◌≡◌, ◌<◌, Bool, true, false, not, length, get_or, Some, None, vec_items, Option, sym, refl, ap, ◌∙◌, subst}
+use Rattle.std.proofs.Common.{Bool, not, Some, None, Option, sym, refl, ap, ◌∙◌, subst}
 use Rattle.keys.specs.Refusals.{Code, plain}
-use Rattle.ledger.specs.Places.{free, is_free, is_wanted}
-use Rattle.ledger.specs.Words.{any, or_else, when}
-use Rattle.table.specs.Lists.{Finds}
+use Rattle.ledger.specs.Places.{is_free, is_wanted}
+use Rattle.ledger.specs.Words.{or_else, when}
 use Rattle.table.specs.Reads.{FindsPlace}
 use Rattle.table.specs.Views.{view, with_places}
 use Rattle.engine.proofs.Rooms.{every_all, room_free, room_aged}

@@ -1,4 +1,4 @@
-use Rattle.std.proofs.Common.{◌≡◌, sym, ap, ◌∙◌, subst}
+use Rattle.std.proofs.Common.{sym, ap, ◌∙◌}
 use Rattle.ledger.specs.Places.{free}
 use Rattle.table.proofs.Seeing.{finds_any}
 use Rattle.table.specs.Reads.{is_seen_of, is_visible}

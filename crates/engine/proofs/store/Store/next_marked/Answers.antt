@@ -1,4 +1,4 @@
-use Rattle.std.proofs.Common.{◌≡◌, ℕ, ◌+◌, ◌≤◌, true, false, List, length, Some, vec_items, Option, Ordering, sym, refl, ap, ◌∙◌, subst, arith}
+use Rattle.std.proofs.Common.{◌≡◌, ℕ, ◌+◌, ◌≤◌, true, List, length, vec_items, Option, Ordering, sym, subst, arith}
 use Rattle.engine.specs.Agreement.{Agree}
 use Rattle.index.specs.Slots.{Maps}
 use Rattle.keys.specs.Orders.{Total}

@@ -1,4 +1,4 @@
-use Rattle.std.proofs.Common.{◌≡◌, sym, refl, subst}
+use Rattle.std.proofs.Common.{sym, refl, subst}
 use Rattle.engine.specs.Agreement.{Agree, AgreeBut}
 use Rattle.engine.proofs.store.Store.relist.Goals as goal
 

@@ -1,4 +1,4 @@
-use Rattle.std.proofs.Common.{◌≡◌, ℕ, vec_items, Option, sym, refl, ap, ◌∙◌}
+use Rattle.std.proofs.Common.{ℕ, Option, sym, ap, ◌∙◌}
 use Rattle.ledger.specs.declared.place.PlaceEvent.TheVariants.{Commit}
 use Rattle.table.specs.Commits.{settled_by, turned_at}
 use Rattle.table.specs.Drafts.{turned}

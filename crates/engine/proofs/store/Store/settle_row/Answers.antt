@@ -1,4 +1,4 @@
-use Rattle.std.proofs.Common.{◌≡◌, List, fold, refl, ap, ◌∙◌}
+use Rattle.std.proofs.Common.{fold, refl, ap, ◌∙◌}
 use Rattle.table.specs.Commits.{settled}
 use Rattle.table.specs.Rows.{no_entry}
 use Rattle.table.specs.Views.{view, with_places}

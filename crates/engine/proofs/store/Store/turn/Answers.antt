@@ -1,8 +1,8 @@
-use Rattle.std.proofs.Common.{◌≡◌, ◌<◌, ◌≤◌, Bool, ◌||◌, length, get_or, set, Some, vec_items, sym, refl, ap, ◌∙◌, subst, rules}
+use Rattle.std.proofs.Common.{◌≡◌, ◌<◌, ◌≤◌, ◌||◌, length, get_or, set, vec_items, sym, ap, ◌∙◌, subst, rules}
 use Rattle.ledger.specs.Places.{after, free, key_of}
 use Rattle.std.proofs.lemmas.List.{set_past}
 use Rattle.table.specs.Views.{view, with_places}
-use Rattle.engine.specs.Agreement.{AgreeBut, loses, told_of}
+use Rattle.engine.specs.Agreement.{AgreeBut, told_of}
 use Rattle.engine.proofs.Agreeing.{told_agrees}
 use Rattle.engine.proofs.KeysKept.{key_kept}
 use Rattle.engine.proofs.store.Store.turn.Goals as goal

@@ -1,12 +1,10 @@
-use Rattle.std.proofs.Common.{◌≡◌, ℕ, ◌&&◌, Some, None, Option, unwrap_or, sym, refl, ap, ◌∙◌, subst}
+use Rattle.std.proofs.Common.{◌≡◌, ◌&&◌, Some, Option, unwrap_or, sym, ap, subst}
 use Rattle.engine.specs.Walking.{Marks}
-use Rattle.keys.specs.Refusals.{Code, plain}
 use Rattle.ledger.specs.Laws.{Least}
 use Rattle.ledger.specs.Words.{beyond}
 use Rattle.ledger.specs.declared.place.Report.{Report}
 use Rattle.std.specs.Option.{option_map}
-use Rattle.table.proofs.Checking.{found_some, passes}
-use Rattle.table.specs.Checks.{report_open}
+use Rattle.table.proofs.Checking.{found_some}
 use Rattle.table.specs.Reads.{is_visible, sight}
 use Rattle.table.specs.Views.{open_report, view}
 use Rattle.engine.proofs.store.Store.walk.Goals as goal
