@@ -1,7 +1,7 @@
 -- An abort is the ledger's: its row names all of the job's drafts, so turning these frees every draft of the job and nothing else.
 use Rattle.std.proofs.Common.{◌≡◌, ℕ, Bool, true, false, cond, eqb, ◌↔◌, List, [], ◌∷◌, ◌++◌, map, get_or, Some, None, fold, filter, Option, Result, Ordering, sym, refl, ap, ◌∙◌, subst, inl, inr, ⊎_elim}
 use lib.ListN.{get_or-map}
-use Rattle.std.specs.List.{flat_map, AllByRecursion as All}
+use Rattle.std.specs.List.{flat_map, AllByRecursion}
 use Rattle.std.proofs.ByRecursion.{All-weaker}
 use Rattle.std.proofs.lemmas.Bool.{eqb-true, both_ways}
 use Rattle.keys.specs.Refusals.{told}
@@ -50,7 +50,7 @@ draft_key t (Superseded k b f) e = differ cc
 abbrev drafted : HeldKey → List ℕ
 drafted e = listed e.draft
 
-module _ {K : Type 0} (ps : List (Place K)) (t : ℕ) (es : List HeldKey) (fits : All (EntryFits ps t) es) where
+module _ {K : Type 0} (ps : List (Place K)) (t : ℕ) (es : List HeldKey) (fits : AllByRecursion (EntryFits ps t) es) where
   undone_turns : (qs : List (Place K)) (e : HeldKey) → undone qs e ≡ fold (turn Abort) qs (drafted e)
   undone_turns qs e = go e.draft
     where
@@ -58,15 +58,15 @@ module _ {K : Type 0} (ps : List (Place K)) (t : ℕ) (es : List HeldKey) (fits 
       go None = refl
       go (Some n) = refl
 
-  own : (e : HeldKey) (f : EntryFits ps t e) → Apart (drafted e) × All (λ n. key_of (at ps n) ≡ Some f.key) (drafted e)
+  own : (e : HeldKey) (f : EntryFits ps t e) → Apart (drafted e) × AllByRecursion (λ n. key_of (at ps n) ≡ Some f.key) (drafted e)
   own e f = go e.draft f.draft
     where
-      go : (o : Option ℕ) → Names (DraftOf t f.key) ps o → Apart (listed o) × All (λ n. key_of (at ps n) ≡ Some f.key) (listed o)
+      go : (o : Option ℕ) → Names (DraftOf t f.key) ps o → Apart (listed o) × AllByRecursion (λ n. key_of (at ps n) ≡ Some f.key) (listed o)
       go None h = (tt, tt)
       go (Some n) h = ((tt, tt), (h.0.1, tt))
 
   -- a place that is turned is a draft of the job
-  turned_draft : (n : ℕ) (us : List HeldKey) → All (EntryFits ps t) us → Has n (flat_map drafted us) → is_draft_of t (at ps n) ≡ true
+  turned_draft : (n : ℕ) (us : List HeldKey) → AllByRecursion (EntryFits ps t) us → Has n (flat_map drafted us) → is_draft_of t (at ps n) ≡ true
   turned_draft n [] f h = absurd h
   turned_draft n (e ∷ us) f h = go e.draft f.0.draft h (λ h'. turned_draft n us f.1 h')
     where
@@ -163,7 +163,7 @@ module _ {K R : Type 0} (order : K → K → Ordering) (v : View K) (own : List 
       places : fold undone v.places (entries_of (row_of v t)) ≡ map (place_aborted t.number) v.places
       places = rw e (aborted_is v.places t.number (entries_of row) (its_entries v s t.number row found) (its_keys v s t.number row found) (its_drafts v s t.number row found))
 
-      unconcerned : All (Unconcerned v.places (map (place_aborted t.number) v.places)) (filter (others row_number t.number) v.jobs)
+      unconcerned : AllByRecursion (Unconcerned v.places (map (place_aborted t.number) v.places)) (filter (others row_number t.number) v.jobs)
       unconcerned = All-weaker (λ r. r.ticket ≡ t.number → ⊥) (Unconcerned v.places (map (place_aborted t.number) v.places)) (λ r ne k h. aborted_same t.number v.places r.ticket k ne) (filter (others row_number t.number) v.jobs) (kept_others row_number t.number v.jobs)
 
       back : (m u : ℕ) (k : K) → DraftOf u k (at (map (place_aborted t.number) v.places) m) → DraftOf u k (at v.places m) × (u ≡ t.number → ⊥)

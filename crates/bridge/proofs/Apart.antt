@@ -1,7 +1,7 @@
 -- Lists whose elements are all different, and what all or some elements of a list have.
 -- Serves running numbers, and the keys that jobs hold.
 use Rattle.std.proofs.Common.{◌≡◌, ℕ, ◌+◌, ◌<◌, Bool, true, false, cond, ◌⊎◌, List, [], ◌∷◌, ◌++◌, map, filter, sym, refl, ap, subst, inl, inr, ⊎_elim, arith}
-use Rattle.std.specs.List.{flat_map, AllByRecursion as All}
+use Rattle.std.specs.List.{flat_map, AllByRecursion}
 use Rattle.std.proofs.ByRecursion.{All-append, All-push, All-weaker}
 use Rattle.bridge.specs.Soundness.{Apart, SomeOf, GivenOut}
 
@@ -15,14 +15,14 @@ Has x = SomeOf (λ y. y ≡ x)
 
 -- no element of the one list is one of the other
 abbrev pub Off : {X : Type 0} → List X → List X → Type 0
-Off xs ys = All (λ x. All (λ y. x ≡ y → ⊥) ys) xs
+Off xs ys = AllByRecursion (λ x. AllByRecursion (λ y. x ≡ y → ⊥) ys) xs
 
-pub some_all : {X : Type 0} (P Q : X → Type 0) (xs : List X) → SomeOf P xs → All Q xs → (x : X) × P x × Q x
+pub some_all : {X : Type 0} (P Q : X → Type 0) (xs : List X) → SomeOf P xs → AllByRecursion Q xs → (x : X) × P x × Q x
 some_all P Q [] s a = absurd s
 some_all P Q (x ∷ xs) (inl p) a = (x, p, a.0)
 some_all P Q (x ∷ xs) (inr s) a = some_all P Q xs s a.1
 
-pub some_map : {X : Type 0} (P Q S : X → Type 0) → ((x : X) → P x → Q x → S x) → (xs : List X) → SomeOf P xs → All Q xs → SomeOf S xs
+pub some_map : {X : Type 0} (P Q S : X → Type 0) → ((x : X) → P x → Q x → S x) → (xs : List X) → SomeOf P xs → AllByRecursion Q xs → SomeOf S xs
 some_map P Q S f [] s a = s
 some_map P Q S f (x ∷ xs) (inl p) a = inl (f x p a.0)
 some_map P Q S f (x ∷ xs) (inr s) a = inr (some_map P Q S f xs s a.1)
@@ -41,22 +41,22 @@ some_parts P [] ys s = inr s
 some_parts P (x ∷ xs) ys (inl p) = inl (inl p)
 some_parts P (x ∷ xs) ys (inr s) = ⊎_elim (λ h. inl (inr h)) (λ h. inr h) (some_parts P xs ys s)
 
-pub all_parts : {X : Type 0} (P : X → Type 0) (xs ys : List X) → All P (xs ++ ys) → All P xs × All P ys
+pub all_parts : {X : Type 0} (P : X → Type 0) (xs ys : List X) → AllByRecursion P (xs ++ ys) → AllByRecursion P xs × AllByRecursion P ys
 all_parts P [] ys a = (tt, a)
 all_parts P (x ∷ xs) ys a = let i = all_parts P xs ys a.1 in ((a.0, i.0), i.1)
 
-pub not_has : {X : Type 0} (x : X) (xs : List X) → All (λ y. x ≡ y → ⊥) xs → Has x xs → ⊥
+pub not_has : {X : Type 0} (x : X) (xs : List X) → AllByRecursion (λ y. x ≡ y → ⊥) xs → Has x xs → ⊥
 not_has x [] a h = h
 not_has x (y ∷ ys) a (inl e) = a.0 (sym e)
 not_has x (y ∷ ys) a (inr h) = not_has x ys a.1 h
 
-pub has_not : {X : Type 0} (x : X) (xs : List X) → (Has x xs → ⊥) → All (λ y. x ≡ y → ⊥) xs
+pub has_not : {X : Type 0} (x : X) (xs : List X) → (Has x xs → ⊥) → AllByRecursion (λ y. x ≡ y → ⊥) xs
 has_not x [] h = tt
 has_not x (y ∷ ys) h = (λ e. h (inl (sym e)), has_not x ys (λ s. h (inr s)))
 
 pub off_has : {X : Type 0} (x : X) (xs ys : List X) → Off xs ys → Has x xs → Has x ys → ⊥
 off_has x [] ys o a b = a
-off_has x (z ∷ xs) ys o (inl e) b = not_has x ys (subst (λ w. All (λ y. w ≡ y → ⊥) ys) e o.0) b
+off_has x (z ∷ xs) ys o (inl e) b = not_has x ys (subst (λ w. AllByRecursion (λ y. w ≡ y → ⊥) ys) e o.0) b
 off_has x (z ∷ xs) ys o (inr a) b = off_has x xs ys o.1 a b
 
 pub apart_parts : {X : Type 0} (xs ys : List X) → Apart (xs ++ ys) → Apart xs × Apart ys × Off xs ys
@@ -75,11 +75,11 @@ apart_push x [] a h = (tt, tt)
 apart_push x (y ∷ ys) a h = (All-push (λ z. y ≡ z → ⊥) ys x a.0 (λ e. h (inl e)), apart_push x ys a.1 (λ s. h (inr s)))
 
 module _ {X Y : Type 0} (f : X → List Y) (p : X → Bool) where
-  all_joined_kept : (P : Y → Type 0) (xs : List X) → All P (flat_map f xs) → All P (flat_map f (filter p xs))
+  all_joined_kept : (P : Y → Type 0) (xs : List X) → AllByRecursion P (flat_map f xs) → AllByRecursion P (flat_map f (filter p xs))
   all_joined_kept P [] a = tt
   all_joined_kept P (x ∷ xs) a = let h = all_parts P (f x) (flat_map f xs) a in go (p x) h (all_joined_kept P xs h.1)
     where
-      go : (b : Bool) → All P (f x) × All P (flat_map f xs) → All P (flat_map f (filter p xs)) → All P (flat_map f (cond b (x ∷ filter p xs) (filter p xs)))
+      go : (b : Bool) → AllByRecursion P (f x) × AllByRecursion P (flat_map f xs) → AllByRecursion P (flat_map f (filter p xs)) → AllByRecursion P (flat_map f (cond b (x ∷ filter p xs) (filter p xs)))
       go true h i = All-append P (f x) (flat_map f (filter p xs)) h.0 i
       go false h i = i
 
@@ -89,15 +89,15 @@ module _ {X Y : Type 0} (f : X → List Y) (p : X → Bool) where
   apart_joined_kept (x ∷ xs) a = let h = apart_parts (f x) (flat_map f xs) a in go (p x) h (apart_joined_kept xs h.1)
     where
       go : (b : Bool) → Apart (f x) × Apart (flat_map f xs) × Off (f x) (flat_map f xs) → Apart (flat_map f (filter p xs)) → Apart (flat_map f (cond b (x ∷ filter p xs) (filter p xs)))
-      go true h i = apart_join (f x) (flat_map f (filter p xs)) h.0 i (All-weaker (λ y. All (λ z. y ≡ z → ⊥) (flat_map f xs)) (λ y. All (λ z. y ≡ z → ⊥) (flat_map f (filter p xs))) (λ y a. all_joined_kept (λ z. y ≡ z → ⊥) xs a) (f x) h.2)
+      go true h i = apart_join (f x) (flat_map f (filter p xs)) h.0 i (All-weaker (λ y. AllByRecursion (λ z. y ≡ z → ⊥) (flat_map f xs)) (λ y. AllByRecursion (λ z. y ≡ z → ⊥) (flat_map f (filter p xs))) (λ y a. all_joined_kept (λ z. y ≡ z → ⊥) xs a) (f x) h.2)
       go false h i = i
 
 module _ {X Y : Type 0} (f : X → Y) (p : X → Bool) where
-  all_map_kept : (P : Y → Type 0) (xs : List X) → All P (map f xs) → All P (map f (filter p xs))
+  all_map_kept : (P : Y → Type 0) (xs : List X) → AllByRecursion P (map f xs) → AllByRecursion P (map f (filter p xs))
   all_map_kept P [] a = tt
   all_map_kept P (x ∷ xs) a = go (p x) (all_map_kept P xs a.1)
     where
-      go : (b : Bool) → All P (map f (filter p xs)) → All P (map f (cond b (x ∷ filter p xs) (filter p xs)))
+      go : (b : Bool) → AllByRecursion P (map f (filter p xs)) → AllByRecursion P (map f (cond b (x ∷ filter p xs) (filter p xs)))
       go true i = (a.0, i)
       go false i = i
 

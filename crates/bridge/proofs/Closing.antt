@@ -1,7 +1,7 @@
 -- A job is closed: the rows of the others stay, and the ledger's jobs are the same but for this one.
 -- Whatever the places become, it is enough that no other row is concerned and that no draft of this job is left.
 use Rattle.std.proofs.Common.{◌≡◌, ℕ, Bool, true, false, cond, not, eqb, List, [], ◌∷◌, ◌++◌, map, Some, None, filter, Option, sym, refl, ◌∙◌, subst, inl, inr}
-use Rattle.std.specs.List.{AllByRecursion as All}
+use Rattle.std.specs.List.{AllByRecursion}
 use Rattle.std.proofs.ByRecursion.{all_kept_by, All-weaker}
 use Rattle.ledger.specs.declared.place.Place.{Place}
 use Rattle.ledger.specs.Words.{or_else, when, listed}
@@ -20,7 +20,7 @@ use Rattle.bridge.proofs.Held.{its_entries, its_drafts}
 
 module _ {K : Type 0} (ps : List (Place K)) where
   -- each row's keys are among those of all rows
-  keys_among : (rows : List Row) → All (λ r. (k : K) → Has k (keys_held ps (entries_of r)) → Has k (all_keys (jobs_in ps rows))) rows
+  keys_among : (rows : List Row) → AllByRecursion (λ r. (k : K) → Has k (keys_held ps (entries_of r)) → Has k (all_keys (jobs_in ps rows))) rows
   keys_among [] = tt
   keys_among (r ∷ rs) = (
     λ k h. some_left (λ q. q ≡ k) (keys_held ps (entries_of r)) (all_keys (jobs_in ps rs)) h,
@@ -29,19 +29,19 @@ module _ {K : Type 0} (ps : List (Place K)) where
   )
 
   -- each row holds a key once
-  keys_apart : (rows : List Row) → Apart (all_keys (jobs_in ps rows)) → All (λ r. Apart (keys_held ps (entries_of r))) rows
+  keys_apart : (rows : List Row) → Apart (all_keys (jobs_in ps rows)) → AllByRecursion (λ r. Apart (keys_held ps (entries_of r))) rows
   keys_apart [] a = tt
   keys_apart (r ∷ rs) a = let p = apart_parts (keys_held ps (entries_of r)) (all_keys (jobs_in ps rs)) a in (p.0, keys_apart rs p.1)
 
   -- no other row holds a key of the job's row
   pub rows_off : (t : ℕ) (rows : List Row) (row : Row) → with_ticket row_number t rows ≡ Some row → Apart (all_keys (jobs_in ps rows))
-      → All (λ r. (k : K) → Has k (keys_held ps (entries_of r)) → Has k (keys_held ps (entries_of row)) → ⊥) (filter (others row_number t) rows)
+      → AllByRecursion (λ r. (k : K) → Has k (keys_held ps (entries_of r)) → Has k (keys_held ps (entries_of row)) → ⊥) (filter (others row_number t) rows)
   rows_off t [] row e a = differ cc
   rows_off t (r ∷ rs) row e a = let p = apart_parts (keys_held ps (entries_of r)) (all_keys (jobs_in ps rs)) a in go (eqb r.ticket t) e p.2 (λ e'. rows_off t rs row e' p.1)
     where
       go : (b : Bool) → or_else (when b r) (with_ticket row_number t rs) ≡ Some row → Off (keys_held ps (entries_of r)) (all_keys (jobs_in ps rs))
-          → (with_ticket row_number t rs ≡ Some row → All (λ r. (k : K) → Has k (keys_held ps (entries_of r)) → Has k (keys_held ps (entries_of row)) → ⊥) (filter (others row_number t) rs))
-          → All (λ r. (k : K) → Has k (keys_held ps (entries_of r)) → Has k (keys_held ps (entries_of row)) → ⊥) (cond (not b) (r ∷ filter (others row_number t) rs) (filter (others row_number t) rs))
+          → (with_ticket row_number t rs ≡ Some row → AllByRecursion (λ r. (k : K) → Has k (keys_held ps (entries_of r)) → Has k (keys_held ps (entries_of row)) → ⊥) (filter (others row_number t) rs))
+          → AllByRecursion (λ r. (k : K) → Has k (keys_held ps (entries_of r)) → Has k (keys_held ps (entries_of row)) → ⊥) (cond (not b) (r ∷ filter (others row_number t) rs) (filter (others row_number t) rs))
       go true e o i =
           let er : r ≡ row = cc in
           all_kept_by (others row_number t) (λ x. (k : K) → Has k (keys_held ps (entries_of x)) → Has k (keys_held ps (entries_of row)) → ⊥) rs
@@ -72,9 +72,9 @@ module _ {K : Type 0} (v : View K) (s : Sound v) (t : ℕ) (row : Row) (found : 
       go (Some m) c e = let em : m ≡ n = cc in rw em d.1
 
 module _ {K : Type 0} (ps qs : List (Place K)) (jobs : List Row) (t : ℕ) (apart : Apart (map row_number jobs)) (s : Rows ps jobs)
-    (unconcerned : All (Unconcerned ps qs) (filter (others row_number t) jobs))
+    (unconcerned : AllByRecursion (Unconcerned ps qs) (filter (others row_number t) jobs))
     (back : (n u : ℕ) (k : K) → DraftOf u k (at qs n) → DraftOf u k (at ps n) × (u ≡ t → ⊥)) where
-  rest : All (RowFits qs) (filter (others row_number t) jobs) × (jobs_in qs (filter (others row_number t) jobs) ≡ jobs_in ps (filter (others row_number t) jobs))
+  rest : AllByRecursion (RowFits qs) (filter (others row_number t) jobs) × (jobs_in qs (filter (others row_number t) jobs) ≡ jobs_in ps (filter (others row_number t) jobs))
   rest = rows_same ps qs (filter (others row_number t) jobs) (all_kept_by (others row_number t) (RowFits ps) jobs s.fit) unconcerned
 
   but_one : jobs_in qs (filter (others row_number t) jobs) ≡ jobs_but t (jobs_in ps jobs)

@@ -1,7 +1,7 @@
 -- A commit is the ledger's: it turns the job's drafts and the current versions of the keys that it drafted, and closes the job.
 use Rattle.std.proofs.Common.{◌≡◌, ℕ, ◌+◌, ◌≤◌, Bool, true, false, cond, not, eqb, leb, ◌⊎◌, ◌↔◌, List, [], ◌∷◌, ◌++◌, map, length, get_or, is_some, Some, None, fold, filter, Option, Result, Ordering, sym, refl, ap, ◌∙◌, subst, inl, inr, ⊎_elim, arith}
 use lib.ListN.{get_or-map}
-use Rattle.std.specs.List.{flat_map, AllByRecursion as All}
+use Rattle.std.specs.List.{flat_map, AllByRecursion}
 use Rattle.ledger.proofs.Finding.{all_both}
 use Rattle.std.proofs.lemmas.Bool.{eqb-true, eq-eqb, ne_eqb, leb-true, leb-false, both_ways}
 use Rattle.keys.specs.Refusals.{plain, told}
@@ -81,7 +81,7 @@ settles_by (Some d) c = listed c ++ (d ∷ [])
 abbrev settles : HeldKey → List ℕ
 settles e = settles_by e.draft e.current
 
-module _ {K : Type 0} (ps : List (Place K)) (t now : ℕ) (es : List HeldKey) (fits : All (EntryFits ps t) es) where
+module _ {K : Type 0} (ps : List (Place K)) (t now : ℕ) (es : List HeldKey) (fits : AllByRecursion (EntryFits ps t) es) where
   settled_turns : (qs : List (Place K)) (e : HeldKey) → settled now qs e ≡ fold (turn (Commit now)) qs (settles e)
   settled_turns qs e = go e.draft e.current
     where
@@ -90,10 +90,10 @@ module _ {K : Type 0} (ps : List (Place K)) (t now : ℕ) (es : List HeldKey) (f
       go (Some d) None = refl
       go (Some d) (Some c) = refl
 
-  own : (e : HeldKey) (f : EntryFits ps t e) → Apart (settles e) × All (λ n. key_of (at ps n) ≡ Some f.key) (settles e)
+  own : (e : HeldKey) (f : EntryFits ps t e) → Apart (settles e) × AllByRecursion (λ n. key_of (at ps n) ≡ Some f.key) (settles e)
   own e f = go e.draft e.current f.draft f.current
     where
-      go : (d c : Option ℕ) → Names (DraftOf t f.key) ps d → Names (CurrentOf f.key) ps c → Apart (settles_by d c) × All (λ n. key_of (at ps n) ≡ Some f.key) (settles_by d c)
+      go : (d c : Option ℕ) → Names (DraftOf t f.key) ps d → Names (CurrentOf f.key) ps c → Apart (settles_by d c) × AllByRecursion (λ n. key_of (at ps n) ≡ Some f.key) (settles_by d c)
       go None c hd hc = (tt, tt)
       go (Some d) None hd hc = ((tt, tt), (hd.0.1, tt))
       go (Some d) (Some c) hd hc = (((λ z. not_both t (at ps c) (rw z hd.0.0) hc.0.0, tt), (tt, tt)), (hc.0.1, (hd.0.1, tt)))
@@ -101,7 +101,7 @@ module _ {K : Type 0} (ps : List (Place K)) (t now : ℕ) (es : List HeldKey) (f
   abbrev SettledAt : ℕ → Type 0
   SettledAt n = (k : K) × (DraftOf t k (at ps n) ⊎ (CurrentOf k (at ps n) × ((m : ℕ) × DraftOf t k (at ps m))))
 
-  turned_cases : (n : ℕ) (us : List HeldKey) → All (EntryFits ps t) us → Has n (flat_map settles us) → SettledAt n
+  turned_cases : (n : ℕ) (us : List HeldKey) → AllByRecursion (EntryFits ps t) us → Has n (flat_map settles us) → SettledAt n
   turned_cases n [] f h = absurd h
   turned_cases n (e ∷ us) f h = go e.draft e.current f.0.draft f.0.current h (λ h'. turned_cases n us f.1 h')
     where
@@ -295,7 +295,7 @@ module _ {K R : Type 0} (order : K → K → Ordering) (tot : Total order) (v : 
       places : fold (settled (v.stamp + 1)) v.places (entries_of (row_of v t)) ≡ after_commit
       places = rw e (settled_is v.places t.number (v.stamp + 1) (entries_of row) (its_entries v s t.number row found) written written_some written_all (its_drafts v s t.number row found) (its_keys v s t.number row found))
 
-      unconcerned : All (Unconcerned v.places after_commit) (filter (others row_number t.number) v.jobs)
+      unconcerned : AllByRecursion (Unconcerned v.places after_commit) (filter (others row_number t.number) v.jobs)
       unconcerned = all_both (λ r. r.ticket ≡ t.number → ⊥) (λ r. (k : K) → Has k (keys_held v.places (entries_of r)) → Has k (keys_held v.places (entries_of row)) → ⊥) (Unconcerned v.places after_commit)
           (λ r ne off k h. settled_same t.number (v.stamp + 1) written v.places r.ticket k ne
           (bool_false (written k) (λ w. let m = written_some k w in off k h (drafted_held v s t.number row found m.0 k m.1))) (written_all k))

@@ -1,7 +1,7 @@
 -- A draft of a job at a key: in the place that its draft has, or in a free one.
 -- Over its own draft nothing moves but record and mark; in a free place one draft is new, and every other stands where it stood.
 use Rattle.std.proofs.Common.{◌≡◌, ℕ, zero, suc, ◌<◌, ◌≤◌, Bool, true, false, cond, ◌⊎◌, ◌↔◌, List, [], ◌∷◌, ◌++◌, map, length, get_or, set, Some, None, Option, Ordering, sym, refl, ap, ◌∙◌, subst, inl, inr, ⊎_elim, arith}
-use Rattle.std.specs.List.{AllByRecursion as All}
+use Rattle.std.specs.List.{AllByRecursion}
 use Rattle.std.proofs.lemmas.List.{length-set, length-map, get_or-set_same, get_or-set_other}
 use Rattle.std.proofs.lemmas.Bool.{eqb-true, eq-eqb, leb-false, both_ways, cases_eq}
 use Rattle.keys.specs.Orders.{Total}
@@ -154,8 +154,8 @@ some_at P (z ∷ zs) (suc i) y lt p = inr (some_at P zs i y (omega arith) p)
 
 module _ {K : Type 0} (order : K → K → Ordering) (tot : Total order) (ps qs : List (Place K)) (t : ℕ) (k : K) (row : Row) (f : RowFits ps row) (its : row.ticket ≡ t)
     (other : (q : K) → (q ≡ k → ⊥) → SameAt ps qs t q) (e : HeldKey) (fe : EntryFits qs t e) (ek : fe.key ≡ k) where
-  mine : All (EntryFits ps t) (entries_of row)
-  mine = subst (λ u. All (EntryFits ps u) (entries_of row)) its f.entries
+  mine : AllByRecursion (EntryFits ps t) (entries_of row)
+  mine = subst (λ u. AllByRecursion (EntryFits ps u) (entries_of row)) its f.entries
 
   -- one more entry
   pub noted_more : is_row_full row ≡ false → has_key order k (keys_held ps (entries_of row)) ≡ false → NotedSo order tot ps qs t k row (noted None e row) e
@@ -166,7 +166,7 @@ module _ {K : Type 0} (order : K → K → Ordering) (tot : Total order) (ps qs 
       let ticket : (noted None e row).ticket ≡ row.ticket = ap (λ r. r.ticket) row_is in
       record {
         fits = record {
-          entries = subst (λ u. All (EntryFits qs u) (entries_of (noted None e row))) (sym (ticket ∙ its)) (subst (All (EntryFits qs t)) (sym entries) p.0);
+          entries = subst (λ u. AllByRecursion (EntryFits qs u) (entries_of (noted None e row))) (sym (ticket ∙ its)) (subst (AllByRecursion (EntryFits qs t)) (sym entries) p.0);
           used = subst (λ (r : Row). r.used ≤ row_entries) (sym row_is) (omega (arith, leb-false row_entries row.used room));
           long = ap (λ r. length r.entries) row_is ∙ (length-set row.entries row.used e ∙ f.long);
         };
@@ -187,7 +187,7 @@ module _ {K : Type 0} (order : K → K → Ordering) (tot : Total order) (ps qs 
       let p = put_in ps qs t k other e fe ek (entries_of row) i lt held mine apart in
       record {
         fits = record {
-          entries = subst (λ u. All (EntryFits qs u) (entries_of (noted (Some i) e row))) (sym its) (subst (All (EntryFits qs t)) (sym entries) p.0);
+          entries = subst (λ u. AllByRecursion (EntryFits qs u) (entries_of (noted (Some i) e row))) (sym its) (subst (AllByRecursion (EntryFits qs t)) (sym entries) p.0);
           used = f.used;
           long = length-set row.entries i e ∙ f.long;
         };

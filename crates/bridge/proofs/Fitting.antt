@@ -2,7 +2,7 @@
 -- An entry names the only draft of its job at its key and the only current version; so it fits other places, and holds the same key,
 -- as soon as these two stand at the same numbers there. Ageing, a commit, an abort and a new draft differ only in which entries that is true of.
 use Rattle.std.proofs.Common.{◌≡◌, ℕ, ◌↔◌, List, [], ◌∷◌, Some, None, Option, sym, refl, ap, ◌∙◌, subst, inl, inr}
-use Rattle.std.specs.List.{AllByRecursion as All}
+use Rattle.std.specs.List.{AllByRecursion}
 use Rattle.ledger.specs.declared.place.Place.{Place}
 use Rattle.ledger.specs.declared.place.PlaceState.{PlaceState}
 use Rattle.ledger.specs.Words.{or_else}
@@ -41,7 +41,7 @@ module _ {K : Type 0} (ps qs : List (Place K)) where
       let c = names_same (CurrentOf f.key) (λ n. (s n).1) e.current f.current in
       record { key = f.key; holds = key_stays t f.key e.draft e.current f.holds d c; draft = d; current = c }
 
-  pub entries_same : (t : ℕ) (es : List HeldKey) → All (EntryFits ps t) es → ((k : K) → Has k (keys_held ps es) → SameAt t k) → All (EntryFits qs t) es × (keys_held qs es ≡ keys_held ps es)
+  pub entries_same : (t : ℕ) (es : List HeldKey) → AllByRecursion (EntryFits ps t) es → ((k : K) → Has k (keys_held ps es) → SameAt t k) → AllByRecursion (EntryFits qs t) es × (keys_held qs es ≡ keys_held ps es)
   entries_same t [] f s = (tt, refl)
   entries_same t (e ∷ es) f s =
       let k = f.0.key in
@@ -55,20 +55,20 @@ module _ {K : Type 0} (ps qs : List (Place K)) where
       let i = entries_same r.ticket (entries_of r) f.entries s in
       (record { entries = i.0; used = f.used; long = f.long }, rw i.1)
 
-  pub rows_same : (rs : List Row) → All (RowFits ps) rs → All Unconcerned rs → All (RowFits qs) rs × (jobs_in qs rs ≡ jobs_in ps rs)
+  pub rows_same : (rs : List Row) → AllByRecursion (RowFits ps) rs → AllByRecursion Unconcerned rs → AllByRecursion (RowFits qs) rs × (jobs_in qs rs ≡ jobs_in ps rs)
   rows_same [] f s = (tt, refl)
   rows_same (r ∷ rs) f s =
       let h = row_same r f.0 s.0 in
       let i = rows_same rs f.1 s.1 in
       ((h.0, i.0), rw (h.1, i.1))
 
-all_any : {X : Type 0} (P : X → Type 0) → ((x : X) → P x) → (xs : List X) → All P xs
+all_any : {X : Type 0} (P : X → Type 0) → ((x : X) → P x) → (xs : List X) → AllByRecursion P xs
 all_any P f [] = tt
 all_any P f (x ∷ xs) = (f x, all_any P f xs)
 
 -- places in which all drafts and current versions stand where they stood: no row is concerned
 module _ {K : Type 0} (ps qs : List (Place K)) (same : (t : ℕ) (k : K) → SameAt ps qs t k) (jobs : List Row) (s : Rows ps jobs) where
-  stay : All (RowFits qs) jobs × (jobs_in qs jobs ≡ jobs_in ps jobs)
+  stay : AllByRecursion (RowFits qs) jobs × (jobs_in qs jobs ≡ jobs_in ps jobs)
   stay = rows_same ps qs jobs s.fit (all_any (Unconcerned ps qs) (λ r k h. same r.ticket k) jobs)
 
   pub jobs_stay : jobs_in qs jobs ≡ jobs_in ps jobs

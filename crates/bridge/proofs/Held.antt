@@ -1,7 +1,7 @@
 -- The row of an open job in a sound table: the draft that it names at a key is the job's only one, and none is left out.
 -- So what the table checks and finds by the row is what the ledger checks and finds among all versions.
 use Rattle.std.proofs.Common.{◌≡◌, ℕ, zero, suc, ◌<◌, min, Bool, true, false, not, ◌&&◌, ◌||◌, List, [], ◌∷◌, length, get_or, is_some, Some, None, Option, Ordering, sym, refl, ◌∙◌, subst, inl, inr, arith}
-use Rattle.std.specs.List.{AllByRecursion as All, slice_get}
+use Rattle.std.specs.List.{AllByRecursion, slice_get}
 use Rattle.std.proofs.ByRecursion.{All-get_or}
 use Rattle.std.proofs.lemmas.List.{length-take}
 use Rattle.std.proofs.lemmas.Bool.{both_ways}
@@ -70,7 +70,7 @@ module _ {K : Type 0} (test : PlaceState K → Bool) (P : PlaceState K → Type 
 pub entries_length : {K : Type 0} (ps : List (Place K)) (row : Row) → RowFits ps row → length (entries_of row) ≡ row.used
 entries_length ps row f = length-take (min row.used row_entries) row.entries ∙ omega (arith, f.used, f.long)
 
-pub keys_length : {K : Type 0} (ps : List (Place K)) (t : ℕ) (es : List HeldKey) → All (EntryFits ps t) es → length (keys_held ps es) ≡ length es
+pub keys_length : {K : Type 0} (ps : List (Place K)) (t : ℕ) (es : List HeldKey) → AllByRecursion (EntryFits ps t) es → length (keys_held ps es) ≡ length es
 keys_length ps t [] f = refl
 keys_length ps t (e ∷ es) f = rw (f.0.holds, keys_length ps t es f.1)
 
@@ -78,8 +78,8 @@ module _ {K : Type 0} (v : View K) (s : Sound v) (t : ℕ) (row : Row) (found : 
   pub its_row : RowFits v.places row × (row.ticket ≡ t)
   its_row = found_one row_number (RowFits v.places) t v.jobs row found s.rows.fit
 
-  pub its_entries : All (EntryFits v.places t) (entries_of row)
-  its_entries = subst (λ u. All (EntryFits v.places u) (entries_of row)) its_row.1 its_row.0.entries
+  pub its_entries : AllByRecursion (EntryFits v.places t) (entries_of row)
+  its_entries = subst (λ u. AllByRecursion (EntryFits v.places u) (entries_of row)) its_row.1 its_row.0.entries
 
   -- each draft of the job is noted in the row
   pub its_drafts : (n : ℕ) (k : K) → DraftOf t k (at v.places n) → SomeOf (λ e. e.draft ≡ Some n) (entries_of row)

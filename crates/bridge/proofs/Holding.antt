@@ -1,7 +1,7 @@
 -- A job comes to hold a key: no key is held twice afterwards, since no other job holds it.
 -- Said of the ledger's jobs; how a row comes by an entry for the key is in Noting.
 use Rattle.std.proofs.Common.{◌≡◌, ℕ, Bool, true, false, cond, not, ◌&&◌, ◌||◌, eqb, ◌⊎◌, List, [], ◌∷◌, ◌++◌, map, None, Ordering, sym, refl, ap, ◌∙◌, subst, inl, inr, ⊎_elim}
-use Rattle.std.specs.List.{AllByRecursion as All}
+use Rattle.std.specs.List.{AllByRecursion}
 use Rattle.std.proofs.ByRecursion.{All-push}
 use Rattle.std.proofs.lemmas.Bool.{eqb-true, eqb-false, both_ways, or_right}
 use Rattle.keys.specs.Orders.{Total}
@@ -31,7 +31,7 @@ module _ {K : Type 0} (order : K → K → Ordering) (tot : Total order) (k : K)
     more j = cond (eqb j.ticket t && not (has_key order k j.keys)) (record { ticket = j.ticket; keys = j.keys ++ (k ∷ []) }) j
 
     -- a job that holds the key holds no more by another hold
-    pub hold_same : (js : List (Job K)) → All (λ j. j.ticket ≡ t → Has k j.keys) js → holding order t k js ≡ js
+    pub hold_same : (js : List (Job K)) → AllByRecursion (λ j. j.ticket ≡ t → Has k j.keys) js → holding order t k js ≡ js
     hold_same [] a = refl
     hold_same (j ∷ js) a = go (eqb j.ticket t) refl (hold_same js a.1)
       where
@@ -40,17 +40,17 @@ module _ {K : Type 0} (order : K → K → Ordering) (tot : Total order) (k : K)
         go false e i = rw e (ap (λ xs. j ∷ xs) i)
 
     -- no other job holds the key
-    alone_all : (js : List (Job K)) → other_holder order t k js ≡ None → All (λ j. (j.ticket ≡ t → ⊥) → Has k j.keys → ⊥) js
+    alone_all : (js : List (Job K)) → other_holder order t k js ≡ None → AllByRecursion (λ j. (j.ticket ≡ t → ⊥) → Has k j.keys → ⊥) js
     alone_all [] e = tt
     alone_all (j ∷ js) e = go (eqb j.ticket t) refl (has_key order k j.keys) refl e (λ e'. alone_all js e')
       where
         go : (b : Bool) → eqb j.ticket t ≡ b → (c : Bool) → has_key order k j.keys ≡ c → or_else (when (not b && c) j.ticket) (other_holder order t k js) ≡ None
-            → (other_holder order t k js ≡ None → All (λ j. (j.ticket ≡ t → ⊥) → Has k j.keys → ⊥) js) → All (λ j. (j.ticket ≡ t → ⊥) → Has k j.keys → ⊥) (j ∷ js)
+            → (other_holder order t k js ≡ None → AllByRecursion (λ j. (j.ticket ≡ t → ⊥) → Has k j.keys → ⊥) js) → AllByRecursion (λ j. (j.ticket ≡ t → ⊥) → Has k j.keys → ⊥) (j ∷ js)
         go true eb c ec e i = (λ ne h. ne (eqb-true j.ticket t eb), i e)
         go false eb true ec e i = differ cc
         go false eb false ec e i = (λ ne h. both_ways (has_key order k j.keys) ec (has_true j.keys h), i e)
 
-    not_among : (js : List (Job K)) → All (λ j. (j.ticket ≡ t → ⊥) → Has k j.keys → ⊥) js → All (λ j. j.ticket ≡ t → ⊥) js → Has k (all_keys js) → ⊥
+    not_among : (js : List (Job K)) → AllByRecursion (λ j. (j.ticket ≡ t → ⊥) → Has k j.keys → ⊥) js → AllByRecursion (λ j. j.ticket ≡ t → ⊥) js → Has k (all_keys js) → ⊥
     not_among [] a b h = h
     not_among (j ∷ js) a b h = ⊎_elim (a.0 b.0) (not_among js a.1 b.1) (some_parts (λ q. q ≡ k) j.keys (all_keys js) h)
 
@@ -80,14 +80,14 @@ module _ {K : Type 0} (order : K → K → Ordering) (tot : Total order) (k : K)
     pub hold_apart : (js : List (Job K)) → Apart (all_keys js) → other_holder order t k js ≡ None → Apart (map (λ j. j.ticket) js) → Apart (all_keys (holding order t k js))
     hold_apart js a alone apart = go js a (alone_all js alone) apart
       where
-        others : (j : Job K) (js : List (Job K)) → j.ticket ≡ t → All (λ y. j.ticket ≡ y → ⊥) (map (λ j. j.ticket) js) → All (λ j. j.ticket ≡ t → ⊥) js
+        others : (j : Job K) (js : List (Job K)) → j.ticket ≡ t → AllByRecursion (λ y. j.ticket ≡ y → ⊥) (map (λ j. j.ticket) js) → AllByRecursion (λ j. j.ticket ≡ t → ⊥) js
         others j [] e a = tt
         others j (x ∷ xs) e a = (λ z. a.0 (e ∙ sym z), others j xs e a.1)
 
-        same_rest : (js : List (Job K)) → All (λ j. j.ticket ≡ t → ⊥) js → holding order t k js ≡ js
+        same_rest : (js : List (Job K)) → AllByRecursion (λ j. j.ticket ≡ t → ⊥) js → holding order t k js ≡ js
         same_rest js b = hold_same js (all_weak js b)
           where
-            all_weak : (xs : List (Job K)) → All (λ j. j.ticket ≡ t → ⊥) xs → All (λ j. j.ticket ≡ t → Has k j.keys) xs
+            all_weak : (xs : List (Job K)) → AllByRecursion (λ j. j.ticket ≡ t → ⊥) xs → AllByRecursion (λ j. j.ticket ≡ t → Has k j.keys) xs
             all_weak [] b = tt
             all_weak (x ∷ xs) b = (λ e. absurd (b.0 e), all_weak xs b.1)
 
@@ -95,9 +95,9 @@ module _ {K : Type 0} (order : K → K → Ordering) (tot : Total order) (k : K)
             → Apart ((cond (not c) (record { ticket = j.ticket; keys = j.keys ++ (k ∷ []) }) j).keys ++ all_keys js)
         here j js true ec p out = apart_join j.keys (all_keys js) p.0 p.1 p.2
         here j js false ec p out = apart_join (j.keys ++ (k ∷ [])) (all_keys js) (apart_push k j.keys p.0 (λ h. both_ways (has_key order k j.keys) ec (has_true j.keys h))) p.1
-            (All-push (λ x. All (λ y. x ≡ y → ⊥) (all_keys js)) j.keys k p.2 (has_not k (all_keys js) out))
+            (All-push (λ x. AllByRecursion (λ y. x ≡ y → ⊥) (all_keys js)) j.keys k p.2 (has_not k (all_keys js) out))
 
-        go : (js : List (Job K)) → Apart (all_keys js) → All (λ j. (j.ticket ≡ t → ⊥) → Has k j.keys → ⊥) js → Apart (map (λ j. j.ticket) js) → Apart (all_keys (holding order t k js))
+        go : (js : List (Job K)) → Apart (all_keys js) → AllByRecursion (λ j. (j.ticket ≡ t → ⊥) → Has k j.keys → ⊥) js → Apart (map (λ j. j.ticket) js) → Apart (all_keys (holding order t k js))
         go [] a b c = tt
         go (j ∷ js) a b c = pick (eqb j.ticket t) refl (apart_parts j.keys (all_keys js) a) (λ a'. go js a' b.1 c.1)
           where

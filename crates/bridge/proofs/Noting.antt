@@ -2,7 +2,7 @@
 -- Afterwards the job holds the key, all else is held as before, and each draft is noted.
 use Rattle.std.proofs.Common.{◌≡◌, ℕ, zero, suc, ◌+◌, ◌<◌, min, Bool, true, false, cond, eqb, ◌⊎◌, List, [], ◌∷◌, ◌++◌, map, length, get_or, take, set, Some, None, Ordering, sym, refl, ap, ◌∙◌, subst, inl, ⊎_elim, arith}
 use lib.Seq.{take-set-lt}
-use Rattle.std.specs.List.{AllByRecursion as All}
+use Rattle.std.specs.List.{AllByRecursion}
 use Rattle.std.proofs.ByRecursion.{All-push}
 use Rattle.std.proofs.lemmas.List.{take_more_set}
 use Rattle.std.proofs.lemmas.Bool.{eqb-true, eqb-false, leb-false, lt-ltb}
@@ -48,14 +48,14 @@ module _ {K : Type 0} (ps qs : List (Place K)) (t : ℕ) (k : K) (other : (q : K
   held : key_held qs e ≡ Some k
   held = f.holds ∙ ap Some ek
 
-  pub pushed : (es : List HeldKey) → All (EntryFits ps t) es → (Has k (keys_held ps es) → ⊥) → All (EntryFits qs t) (es ++ (e ∷ [])) × (keys_held qs (es ++ (e ∷ [])) ≡ keys_held ps es ++ (k ∷ []))
+  pub pushed : (es : List HeldKey) → AllByRecursion (EntryFits ps t) es → (Has k (keys_held ps es) → ⊥) → AllByRecursion (EntryFits qs t) (es ++ (e ∷ [])) × (keys_held qs (es ++ (e ∷ [])) ≡ keys_held ps es ++ (k ∷ []))
   pushed es fits out =
       let i = entries_same ps qs t es fits (λ q h. other q (λ z. out (subst (λ x. Has x (keys_held ps es)) z h))) in (
         All-push (EntryFits qs t) es e i.0 f,
         joined_append (λ x. listed (key_held qs x)) es (e ∷ []) ∙ (ap (λ ks. ks ++ keys_held qs (e ∷ [])) i.1 ∙ ap (λ ks. keys_held ps es ++ ks) (keys_cons qs e [] k held)),
       )
 
-  pub put_in : (es : List HeldKey) (i : ℕ) → i < length es → key_held ps (get_or es i no_entry) ≡ Some k → All (EntryFits ps t) es → Apart (keys_held ps es) → All (EntryFits qs t) (set es i e) × (keys_held qs (set es i e) ≡ keys_held ps es)
+  pub put_in : (es : List HeldKey) (i : ℕ) → i < length es → key_held ps (get_or es i no_entry) ≡ Some k → AllByRecursion (EntryFits ps t) es → Apart (keys_held ps es) → AllByRecursion (EntryFits qs t) (set es i e) × (keys_held qs (set es i e) ≡ keys_held ps es)
   put_in [] i lt h fits a = absurd (omega arith)
   put_in (x ∷ es) zero lt h fits a =
       let a' : Apart (k ∷ keys_held ps es) = subst Apart (keys_cons ps x es k h) a in
@@ -78,12 +78,12 @@ module _ {K : Type 0} (ps qs : List (Place K)) (t : ℕ) (k : K) (other : (q : K
 module _ {K : Type 0} (order : K → K → Ordering) (tot : Total order) (ps qs : List (Place K)) (jobs : List Row) (t : ℕ) (k : K) (row row' : Row)
     (found : with_ticket row_number t jobs ≡ Some row) (apart : Apart (map row_number jobs)) (s : Rows ps jobs) (same : (u : ℕ) (q : K) → (u ≡ t → ⊥) → SameAt ps qs u q)
     (its : row'.ticket ≡ t) (fits : RowFits qs row') (holds : job_in qs row' ≡ more order tot k t (job_in ps row)) where
-  over_rows : (rs : List Row) → All (λ r. r.ticket ≡ t → r ≡ row) rs → All (RowFits ps) rs → All (RowFits qs) (map (over row_number t row') rs) × (jobs_in qs (map (over row_number t row') rs) ≡ holding order t k (jobs_in ps rs))
+  over_rows : (rs : List Row) → AllByRecursion (λ r. r.ticket ≡ t → r ≡ row) rs → AllByRecursion (RowFits ps) rs → AllByRecursion (RowFits qs) (map (over row_number t row') rs) × (jobs_in qs (map (over row_number t row') rs) ≡ holding order t k (jobs_in ps rs))
   over_rows [] one f = (tt, refl)
   over_rows (r ∷ rs) one f = go (eqb r.ticket t) refl (over_rows rs one.1 f.1)
     where
-      go : (b : Bool) → eqb r.ticket t ≡ b → All (RowFits qs) (map (over row_number t row') rs) × (jobs_in qs (map (over row_number t row') rs) ≡ holding order t k (jobs_in ps rs))
-          → All (RowFits qs) (cond b row' r ∷ map (over row_number t row') rs) × (job_in qs (cond b row' r) ∷ jobs_in qs (map (over row_number t row') rs) ≡ more order tot k t (job_in ps r) ∷ holding order t k (jobs_in ps rs))
+      go : (b : Bool) → eqb r.ticket t ≡ b → AllByRecursion (RowFits qs) (map (over row_number t row') rs) × (jobs_in qs (map (over row_number t row') rs) ≡ holding order t k (jobs_in ps rs))
+          → AllByRecursion (RowFits qs) (cond b row' r ∷ map (over row_number t row') rs) × (job_in qs (cond b row' r) ∷ jobs_in qs (map (over row_number t row') rs) ≡ more order tot k t (job_in ps r) ∷ holding order t k (jobs_in ps rs))
       go true e i =
           let er : r ≡ row = one.0 (eqb-true r.ticket t e) in
           ((fits, i.0), ap (λ j. j ∷ jobs_in qs (map (over row_number t row') rs)) (holds ∙ ap (λ x. more order tot k t (job_in ps x)) (sym er)) ∙ ap (λ js. more order tot k t (job_in ps r) ∷ js) i.1)
@@ -91,7 +91,7 @@ module _ {K : Type 0} (order : K → K → Ordering) (tot : Total order) (ps qs 
           let h = row_same ps qs r f.0 (λ q hq. same r.ticket q (eqb-false r.ticket t e)) in
           ((h.0, i.0), rw (e, h.1, i.1))
 
-  done : All (RowFits qs) (map (over row_number t row') jobs) × (jobs_in qs (map (over row_number t row') jobs) ≡ holding order t k (jobs_in ps jobs))
+  done : AllByRecursion (RowFits qs) (map (over row_number t row') jobs) × (jobs_in qs (map (over row_number t row') jobs) ≡ holding order t k (jobs_in ps jobs))
   done = over_rows jobs (only_one row_number t jobs row found apart) s.fit
 
   tickets : (rs : List Row) → map (λ j. j.ticket) (jobs_in ps rs) ≡ map row_number rs

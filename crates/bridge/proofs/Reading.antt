@@ -1,7 +1,7 @@
 -- A read and a walk are the ledger's.
 -- At most one place has what a report sees at a key, so the record of any such place is the ledger's; and a walk goes by the keys of such places.
 use Rattle.std.proofs.Common.{◌≡◌, ℕ, zero, suc, Bool, true, false, not, ◌&&◌, eqb, List, [], ◌∷◌, ◌++◌, length, Some, None, Option, Result, Ordering, unwrap_or, sym, refl, ap, ◌∙◌, inl, inr, arith}
-use Rattle.std.specs.List.{AllByRecursion as All}
+use Rattle.std.specs.List.{AllByRecursion}
 use Rattle.std.proofs.ByRecursion.{All-append}
 use Rattle.std.proofs.lemmas.Bool.{and_parts, and_from, both_ways}
 use Rattle.keys.specs.Refusals.{plain, told}
@@ -61,7 +61,7 @@ module _ {K : Type 0} (order : K → K → Ordering) (st : ℕ) (from : Option K
   abbrev Shows : PlaceState K → K → Type 0
   Shows p q = (is_seen_at st p ≡ true) × (key_of p ≡ Some q) × (beyond order from q ≡ true)
 
-one_all : {K : Type 0} (P : K → Type 0) (b : Bool) (q : K) → (b ≡ true → P q) → All P (listed (when b q))
+one_all : {K : Type 0} (P : K → Type 0) (b : Bool) (q : K) → (b ≡ true → P q) → AllByRecursion P (listed (when b q))
 one_all P true q h = (h refl, tt)
 one_all P false q h = tt
 
@@ -71,7 +71,7 @@ in_right k (x ∷ xs) ys h = inr (in_right k xs ys h)
 
 -- the keys that a report sees, by places
 module _ {K R : Type 0} (order : K → K → Ordering) (st : ℕ) (from : Option K) where
-  place_all : (P : K → Type 0) (p : PlaceState K) (r : R) (vs : List (Version K R)) → ((q : K) → Shows order st from p q → P q) → All P (keys_seen order st from vs) → All P (keys_seen order st from (listed (version_in p r) ++ vs))
+  place_all : (P : K → Type 0) (p : PlaceState K) (r : R) (vs : List (Version K R)) → ((q : K) → Shows order st from p q → P q) → AllByRecursion P (keys_seen order st from vs) → AllByRecursion P (keys_seen order st from (listed (version_in p r) ++ vs))
   place_all P Free r vs h a = a
   place_all P (Unstamped q j) r vs h a = a
   place_all P (Gone q j) r vs h a = a
@@ -80,7 +80,7 @@ module _ {K R : Type 0} (order : K → K → Ordering) (st : ℕ) (from : Option
   place_all P (Superseded q b f) r vs h a = All-append P (listed (when (spans b (Some f) st && beyond order from q) q)) (keys_seen order st from vs)
       (one_all P (spans b (Some f) st && beyond order from q) q (λ e. let x = and_parts (spans b (Some f) st) (beyond order from q) e in h q (x.0, refl, x.1))) a
 
-  keys_all : (P : K → Type 0) (ps : List (Place K)) (shelf : List R) → ((n : ℕ) (q : K) → Shows order st from (at ps n) q → P q) → All P (keys_seen order st from (versions_in ps shelf))
+  keys_all : (P : K → Type 0) (ps : List (Place K)) (shelf : List R) → ((n : ℕ) (q : K) → Shows order st from (at ps n) q → P q) → AllByRecursion P (keys_seen order st from (versions_in ps shelf))
   keys_all P [] shelf h = tt
   keys_all P (p ∷ ps) [] h = tt
   keys_all P (p ∷ ps) (r ∷ rs) h = place_all P p.state r (versions_in ps rs) (h 0) (keys_all P ps rs (λ n. h (suc n)))
@@ -120,7 +120,7 @@ module _ {K R : Type 0} (order : K → K → Ordering) (st : ℕ) (from : Option
         let x = and_parts (is_seen_at st (at ps n.0)) (carries order q (at ps n.0)) n.2 in
         keys_in ps shelf long n.0 q (x.0, key_true order tot (key_of (at ps n.0)) q x.1, p.1)
 
-    none_there : (ks : List K) → All (λ q. ⊥) ks → least order ks ≡ None
+    none_there : (ks : List K) → AllByRecursion (λ q. ⊥) ks → least order ks ≡ None
     none_there [] a = refl
     none_there (k ∷ ks) a = absurd a.0
 

@@ -1,7 +1,7 @@
 -- Open reports and rows by their running numbers: looked up, taken out, written over.
 -- Where no two have the same number, what the table does to the first it finds is done to the only one, as the ledger says it.
 use Rattle.std.proofs.Common.{◌≡◌, ℕ, Bool, true, false, cond, not, eqb, List, [], ◌∷◌, ◌++◌, map, Some, filter, Option, sym, refl, ap, ◌∙◌, subst}
-use Rattle.std.specs.List.{AllByRecursion as All}
+use Rattle.std.specs.List.{AllByRecursion}
 use Rattle.std.specs.Option.{option_map}
 use Rattle.std.proofs.lemmas.Bool.{eqb-true, eqb-false, eq-eqb, ne_eqb}
 use Rattle.ledger.specs.Words.{when, or_else, first}
@@ -24,7 +24,7 @@ module _ {X : Type 0} (number : X → ℕ) where
       go false i = i
 
   -- what holds of all holds of the one that was found, and its number is the one that was looked for
-  pub found_one : (P : X → Type 0) (t : ℕ) (xs : List X) (x : X) → with_ticket number t xs ≡ Some x → All P xs → P x × (number x ≡ t)
+  pub found_one : (P : X → Type 0) (t : ℕ) (xs : List X) (x : X) → with_ticket number t xs ≡ Some x → AllByRecursion P xs → P x × (number x ≡ t)
   found_one P t [] x e a = differ cc
   found_one P t (y ∷ ys) x e a = go (eqb (number y) t) refl e (λ e'. found_one P t ys x e' a.1)
     where
@@ -33,22 +33,22 @@ module _ {X : Type 0} (number : X → ℕ) where
       go false eb e i = i e
 
   -- where no two have the same number, it is the only one with it
-  pub only_one : (t : ℕ) (xs : List X) (x : X) → with_ticket number t xs ≡ Some x → Apart (map number xs) → All (λ y. number y ≡ t → y ≡ x) xs
+  pub only_one : (t : ℕ) (xs : List X) (x : X) → with_ticket number t xs ≡ Some x → Apart (map number xs) → AllByRecursion (λ y. number y ≡ t → y ≡ x) xs
   only_one t [] x e a = tt
   only_one t (y ∷ ys) x e a = go (eqb (number y) t) refl e (λ e'. only_one t ys x e' a.1)
     where
-      none : (zs : List X) → All (λ z. number y ≡ z → ⊥) (map number zs) → number y ≡ t → All (λ z. number z ≡ t → z ≡ x) zs
+      none : (zs : List X) → AllByRecursion (λ z. number y ≡ z → ⊥) (map number zs) → number y ≡ t → AllByRecursion (λ z. number z ≡ t → z ≡ x) zs
       none [] b e = tt
       none (z ∷ zs) b e = (λ f. absurd (b.0 (e ∙ sym f)), none zs b.1 e)
 
-      go : (b : Bool) → eqb (number y) t ≡ b → or_else (when b y) (with_ticket number t ys) ≡ Some x → (with_ticket number t ys ≡ Some x → All (λ z. number z ≡ t → z ≡ x) ys) → All (λ z. number z ≡ t → z ≡ x) (y ∷ ys)
+      go : (b : Bool) → eqb (number y) t ≡ b → or_else (when b y) (with_ticket number t ys) ≡ Some x → (with_ticket number t ys ≡ Some x → AllByRecursion (λ z. number z ≡ t → z ≡ x) ys) → AllByRecursion (λ z. number z ≡ t → z ≡ x) (y ∷ ys)
       go true eb e i = (λ f. cc, none ys a.0 (eqb-true (number y) t eb))
       go false eb e i = (λ f. absurd (eqb-false (number y) t eb f), i e)
 
   abbrev pub others : ℕ → X → Bool
   others t x = not (eqb (number x) t)
 
-  none_other : (t u : ℕ) (xs : List X) → u ≡ t → All (λ y. u ≡ y → ⊥) (map number xs) → filter (others t) xs ≡ xs
+  none_other : (t u : ℕ) (xs : List X) → u ≡ t → AllByRecursion (λ y. u ≡ y → ⊥) (map number xs) → filter (others t) xs ≡ xs
   none_other t u [] e a = refl
   none_other t u (x ∷ xs) e a = rw (ne_eqb (number x) t (λ z. a.0 (e ∙ sym z)), none_other t u xs e a.1)
 
@@ -71,11 +71,11 @@ module _ {X : Type 0} (number : X → ℕ) where
       go false e i = ap (or_else (when (eqb (number x) u) x)) i
 
   -- none that stays has the number
-  pub kept_others : (t : ℕ) (xs : List X) → All (λ x. number x ≡ t → ⊥) (filter (others t) xs)
+  pub kept_others : (t : ℕ) (xs : List X) → AllByRecursion (λ x. number x ≡ t → ⊥) (filter (others t) xs)
   kept_others t [] = tt
   kept_others t (x ∷ xs) = go (eqb (number x) t) refl (kept_others t xs)
     where
-      go : (b : Bool) → eqb (number x) t ≡ b → All (λ x. number x ≡ t → ⊥) (filter (others t) xs) → All (λ x. number x ≡ t → ⊥) (cond (not b) (x ∷ filter (others t) xs) (filter (others t) xs))
+      go : (b : Bool) → eqb (number x) t ≡ b → AllByRecursion (λ x. number x ≡ t → ⊥) (filter (others t) xs) → AllByRecursion (λ x. number x ≡ t → ⊥) (cond (not b) (x ∷ filter (others t) xs) (filter (others t) xs))
       go true e i = i
       go false e i = (eqb-false (number x) t e, i)
 
@@ -83,7 +83,7 @@ module _ {X : Type 0} (number : X → ℕ) where
   abbrev pub over : ℕ → X → X → X
   over t y x = cond (eqb (number x) t) y x
 
-  none_over : (t u : ℕ) (y : X) (xs : List X) → u ≡ t → All (λ z. u ≡ z → ⊥) (map number xs) → map (over t y) xs ≡ xs
+  none_over : (t u : ℕ) (y : X) (xs : List X) → u ≡ t → AllByRecursion (λ z. u ≡ z → ⊥) (map number xs) → map (over t y) xs ≡ xs
   none_over t u y [] e a = refl
   none_over t u y (x ∷ xs) e a = rw (ne_eqb (number x) t (λ z. a.0 (e ∙ sym z)), none_over t u y xs e a.1)
 

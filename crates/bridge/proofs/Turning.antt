@@ -1,7 +1,7 @@
 -- A commit and an abort turn one place after another, as the entries of a row name them.
 -- The places are all different, since the keys that the row holds are; so each is turned once, and all others stay.
 use Rattle.std.proofs.Common.{◌≡◌, ℕ, Bool, true, false, eqb, ◌⊎◌, List, [], ◌∷◌, ◌++◌, map, length, get_or, Some, fold, Option, sym, refl, ap, ◌∙◌, subst, inl, inr, ⊎_elim, arith}
-use Rattle.std.specs.List.{flat_map, AllByRecursion as All}
+use Rattle.std.specs.List.{flat_map, AllByRecursion}
 use Rattle.std.proofs.ByRecursion.{All-append, All-weaker}
 use Rattle.std.proofs.lemmas.List.{length-set, get_or-set_same, get_or-set_other, get_or_past, length-map, same_lists, get_or-map, get_or_default}
 use Rattle.std.proofs.lemmas.Bool.{eqb-true, eqb-false, cases_lt}
@@ -55,11 +55,11 @@ entries_turn event g names is (e ∷ es) ps = entries_turn event g names is es (
 
 -- the places that entries name are all different, where those of one entry are and carry its key
 module _ {K : Type 0} (ps : List (Place K)) (t : ℕ) (names : HeldKey → List ℕ)
-    (own : (e : HeldKey) (f : EntryFits ps t e) → Apart (names e) × All (λ n. key_of (at ps n) ≡ Some f.key) (names e)) where
+    (own : (e : HeldKey) (f : EntryFits ps t e) → Apart (names e) × AllByRecursion (λ n. key_of (at ps n) ≡ Some f.key) (names e)) where
   abbrev Carried : List HeldKey → ℕ → Type 0
   Carried es n = (k : K) × Has k (keys_held ps es) × (key_of (at ps n) ≡ Some k)
 
-  pub names_apart : (es : List HeldKey) → All (EntryFits ps t) es → Apart (keys_held ps es) → Apart (flat_map names es) × All (Carried es) (flat_map names es)
+  pub names_apart : (es : List HeldKey) → AllByRecursion (EntryFits ps t) es → Apart (keys_held ps es) → Apart (flat_map names es) × AllByRecursion (Carried es) (flat_map names es)
   names_apart [] f a = (tt, tt)
   names_apart (e ∷ es) f a =
       let k = f.0.key in
@@ -68,7 +68,7 @@ module _ {K : Type 0} (ps : List (Place K)) (t : ℕ) (names : HeldKey → List 
       let i = names_apart es f.1 a'.1 in
       let o = own e f.0 in (
         apart_join (names e) (flat_map names es) o.0 i.0
-            (All-weaker (λ n. key_of (at ps n) ≡ Some k) (λ n. All (λ m. n ≡ m → ⊥) (flat_map names es))
+            (All-weaker (λ n. key_of (at ps n) ≡ Some k) (λ n. AllByRecursion (λ m. n ≡ m → ⊥) (flat_map names es))
             (λ n en. has_not n (flat_map names es) (λ h.
             let x = some_all (λ m. m ≡ n) (Carried es) (flat_map names es) h i.1 in
             let same : key_of (at ps n) ≡ Some x.2.0 = subst (λ m. key_of (at ps m) ≡ Some x.2.0) x.1 x.2.2 in

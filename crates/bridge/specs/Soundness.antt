@@ -1,7 +1,7 @@
 -- What holds of the table of every store that came from an opening: opening gives it, every call keeps it, granted or refused.
 -- An entry names the only place, or none, that has what it says; so what a call does at these places it does wherever it should.
 use Rattle.std.specs.Prelude.{◌≡◌, ℕ, ◌<◌, ◌≤◌, true, ◌⊎◌, List, [], ◌∷◌, map, length, Some, None, Option, ◌≢◌}
-use Rattle.std.specs.List.{flat_map, AllByRecursion as All}
+use Rattle.std.specs.List.{flat_map, AllByRecursion}
 use Rattle.ledger.specs.declared.place.Place.{Place}
 use Rattle.ledger.specs.declared.place.PlaceState.{PlaceState}
 use Rattle.ledger.specs.Limits.{last_stamp, row_entries}
@@ -17,7 +17,7 @@ use Rattle.bridge.specs.States.{key_held, jobs_in}
 -- no two of a list are the same
 abbrev pub Apart : {X : Type 0} → List X → Type 0
 Apart [] = Unit {0}
-Apart (x ∷ xs) = All (λ y. x ≢ y) xs × Apart xs
+Apart (x ∷ xs) = AllByRecursion (λ y. x ≢ y) xs × Apart xs
 
 -- some element has the property
 abbrev pub SomeOf : {X : Type 0} → (X → Type 0) → List X → Type 0
@@ -26,7 +26,7 @@ SomeOf P (x ∷ xs) = P x ⊎ SomeOf P xs
 
 -- running numbers that were given out: no two the same, all below the next one
 abbrev pub GivenOut : ℕ → List ℕ → Type 0
-GivenOut next tickets = Apart tickets × All (λ t. t < next) tickets
+GivenOut next tickets = Apart tickets × AllByRecursion (λ t. t < next) tickets
 
 -- a draft of the job at the key
 abbrev pub DraftOf : {K : Type 0} → ℕ → K → PlaceState K → Type 0
@@ -50,7 +50,7 @@ pub record EntryFits {K : Type 0} (places : List (Place K)) (job : ℕ) (e : Hel
 
 -- each used entry of a row fits the places
 pub record RowFits {K : Type 0} (places : List (Place K)) (row : Row) : Type 0 where
-  pub entries : All (EntryFits places row.ticket) (entries_of row)
+  pub entries : AllByRecursion (EntryFits places row.ticket) (entries_of row)
   pub used : row.used ≤ row_entries
   pub long : length row.entries ≡ row_entries
 
@@ -65,7 +65,7 @@ all_keys = flat_map (λ j. j.keys)
 
 -- the rows of the open jobs against the places
 pub record Rows {K : Type 0} (places : List (Place K)) (jobs : List Row) : Type 0 where
-  pub fit : All (RowFits places) jobs
+  pub fit : AllByRecursion (RowFits places) jobs
   -- no key is held twice
   pub apart : Apart (all_keys (jobs_in places jobs))
   -- each draft is noted in its job's row

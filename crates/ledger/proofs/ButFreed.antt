@@ -2,7 +2,7 @@
 -- A version is freeable when it is superseded and in no open report's span. The relation is kept by whatever picks or changes versions one by one and
 -- leaves freeable ones alone, by one version more on both sides, and by ageing, which frees some more.
 use Rattle.std.proofs.Common.{◌≡◌, ℕ, Bool, true, false, not, ◌&&◌, List, ◌∷◌, ◌++◌, Some, None, filter, Option, sym, refl, subst}
-use Rattle.std.specs.List.{AllByRecursion as All}
+use Rattle.std.specs.List.{AllByRecursion}
 use Rattle.std.proofs.lemmas.List.{append_assoc}
 use Rattle.std.proofs.ByRecursion.{All-append, All-weaker, kept_by_passes}
 use Rattle.ledger.specs.declared.place.Report.{Report}
@@ -21,7 +21,7 @@ Freeable reports v = (finished (λ f. true) v ≡ true) × (wanted reports v ≡
 pub record AllButFreed {K R : Type 0} (reports : List Report) (all here : List (Version K R)) : Type 0 where
   pub freed : List (Version K R)
   pub listed : Perm (here ++ freed) all
-  pub freeable : All (Freeable reports) freed
+  pub freeable : AllByRecursion (Freeable reports) freed
 
 module _ {K R : Type 0} (reports : List Report) (all here : List (Version K R)) (w : AllButFreed reports all here) where
   -- in another order

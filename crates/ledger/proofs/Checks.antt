@@ -1,6 +1,6 @@
 -- The checks of the calls: which codes they can tell, and what is known when none of them refuses.
 use Rattle.std.proofs.Common.{◌≡◌, ℕ, Bool, true, false, List, [], ◌∷◌, Some, None, Option, Ordering, refl, subst}
-use Rattle.std.specs.List.{AllByRecursion as All}
+use Rattle.std.specs.List.{AllByRecursion}
 use Rattle.keys.specs.Refusals.{Code, plain}
 use Rattle.ledger.specs.declared.call.Call.{Call}
 use Rattle.ledger.specs.declared.call.Call.TheVariants.{Walk, Basic}
@@ -23,7 +23,7 @@ tells_holder P p None c e = differ cc
 tells_holder P p (Some t) c e = let ec : record { number = 7; values = t ∷ [] } ≡ c = cc in subst P ec (p t)
 
 -- so is what the first check that refuses tells
-pub tells_first : (P : Code → Type 0) (cs : List (Option Code)) → All (Tells P) cs → Tells P (first (λ check. check) cs)
+pub tells_first : (P : Code → Type 0) (cs : List (Option Code)) → AllByRecursion (Tells P) cs → Tells P (first (λ check. check) cs)
 tells_first P [] a c e = differ cc
 tells_first P (None ∷ cs) a c e = tells_first P cs a.1 c e
 tells_first P (Some x ∷ cs) a c e = a.0 c e
@@ -41,7 +41,7 @@ pub record Known (P : Code → Type 0) : Type 0 where
 
 module _ {K R : Type 0} (order : K → K → Ordering) (P : Code → Type 0) (known : Known P) where
   -- then it is so of all that the checks of a call tell, if it is so of 10 for a call that drafts
-  pub checks_tell : (full : Bool) (b : Summary K R) (c : Call K R) (n : ℕ) → ((t : ℕ) (k : K) (d : Option R) → change c ≡ drafts t k d → P (plain 10)) → All (Tells P) (checks order full b c n)
+  pub checks_tell : (full : Bool) (b : Summary K R) (c : Call K R) (n : ℕ) → ((t : ℕ) (k : K) (d : Option R) → change c ≡ drafts t k d → P (plain 10)) → AllByRecursion (Tells P) (checks order full b c n)
   checks_tell full b (Walk t from) n ten = (tells_when P (plain 4) known.ticket _, tt)
   checks_tell full b (Basic BeginReport) n ten = (tells_when P (plain 5) known.too_many _, (tells_when P (plain 6) known.number _, tt))
   checks_tell full b (Basic BeginJob) n ten = (tells_when P (plain 5) known.too_many _, (tells_when P (plain 6) known.number _, tt))

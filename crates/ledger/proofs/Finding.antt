@@ -1,7 +1,7 @@
 -- What `first`, `any` and counts give on lists that were joined, filtered or shuffled.
 -- The one idea: where at most one element of a list is found, its place in the list does not matter.
 use Rattle.std.proofs.Common.{◌≡◌, ℕ, ◌+◌, ◌≤◌, Bool, true, false, cond, ◌&&◌, ◌||◌, List, [], ◌∷◌, ◌++◌, is_some, Some, None, sum_by, count_by, filter, Option, sym, refl, ap, ◌∙◌, subst, arith}
-use Rattle.std.specs.List.{flat_map, AllByRecursion as All}
+use Rattle.std.specs.List.{flat_map, AllByRecursion}
 use Rattle.std.proofs.lemmas.List.{append_assoc}
 use Rattle.std.proofs.ByRecursion.{All-append}
 use Rattle.std.proofs.lemmas.List.Sums.{sum_by-cons, sum_by-append}
@@ -17,21 +17,21 @@ pub differ : {G : Type 0} → ◌≡◌ {A = ℕ} 0 1 → G
 differ z = absurd (omega arith)
 
 -- each element, from what holds of all
-pub all_of : {X : Type 0} (P : X → Type 0) → ((x : X) → P x) → (xs : List X) → All P xs
+pub all_of : {X : Type 0} (P : X → Type 0) → ((x : X) → P x) → (xs : List X) → AllByRecursion P xs
 all_of P h [] = tt
 all_of P h (x ∷ xs) = (h x, all_of P h xs)
 
 -- each element, from two facts of it
-pub all_both : {X : Type 0} (P Q S : X → Type 0) → ((x : X) → P x → Q x → S x) → (xs : List X) → All P xs → All Q xs → All S xs
+pub all_both : {X : Type 0} (P Q S : X → Type 0) → ((x : X) → P x → Q x → S x) → (xs : List X) → AllByRecursion P xs → AllByRecursion Q xs → AllByRecursion S xs
 all_both P Q S h [] a b = tt
 all_both P Q S h (x ∷ xs) a b = (h x a.0 b.0, all_both P Q S h xs a.1 b.1)
 
-pub all_append_parts : {X : Type 0} (P : X → Type 0) (xs ys : List X) → All P (xs ++ ys) → All P xs × All P ys
+pub all_append_parts : {X : Type 0} (P : X → Type 0) (xs ys : List X) → AllByRecursion P (xs ++ ys) → AllByRecursion P xs × AllByRecursion P ys
 all_append_parts P [] ys a = (tt, a)
 all_append_parts P (x ∷ xs) ys a = let r = all_append_parts P xs ys a.1 in ((a.0, r.0), r.1)
 
 -- each that is picked, from what holds of what each element gives
-pub all_picked : {X Y : Type 0} (P : Y → Type 0) (g : X → Option Y) (xs : List X) → All (λ x. All P (listed (g x))) xs → All P (picked g xs)
+pub all_picked : {X Y : Type 0} (P : Y → Type 0) (g : X → Option Y) (xs : List X) → AllByRecursion (λ x. AllByRecursion P (listed (g x))) xs → AllByRecursion P (picked g xs)
 all_picked P g [] a = tt
 all_picked P g (x ∷ xs) a = All-append P (listed (g x)) (picked g xs) a.0 (all_picked P g xs a.1)
 
@@ -39,15 +39,15 @@ pub joined_append : {X Y : Type 0} (g : X → List Y) (xs ys : List X) → flat_
 joined_append g [] ys = refl
 joined_append g (x ∷ xs) ys = ap (λ zs. g x ++ zs) (joined_append g xs ys) ∙ sym (append_assoc (g x) (flat_map g xs) (flat_map g ys))
 
-pub picked_self : {X : Type 0} (g : X → Option X) (xs : List X) → All (λ x. g x ≡ Some x) xs → picked g xs ≡ xs
+pub picked_self : {X : Type 0} (g : X → Option X) (xs : List X) → AllByRecursion (λ x. g x ≡ Some x) xs → picked g xs ≡ xs
 picked_self g [] a = refl
 picked_self g (x ∷ xs) a = rw a.0 (ap (λ zs. x ∷ zs) (picked_self g xs a.1))
 
-pub picked_none : {X Y : Type 0} (g : X → Option Y) (xs : List X) → All (λ x. g x ≡ None) xs → picked g xs ≡ []
+pub picked_none : {X Y : Type 0} (g : X → Option Y) (xs : List X) → AllByRecursion (λ x. g x ≡ None) xs → picked g xs ≡ []
 picked_none g [] a = refl
 picked_none g (x ∷ xs) a = rw a.0 (picked_none g xs a.1)
 
-pub kept_all : {X : Type 0} (t : X → Bool) (xs : List X) → All (λ x. t x ≡ true) xs → filter t xs ≡ xs
+pub kept_all : {X : Type 0} (t : X → Bool) (xs : List X) → AllByRecursion (λ x. t x ≡ true) xs → filter t xs ≡ xs
 kept_all t [] a = refl
 kept_all t (x ∷ xs) a = rw a.0 (ap (λ zs. x ∷ zs) (kept_all t xs a.1))
 
@@ -69,7 +69,7 @@ any_push {X} p (x ∷ xs) y h k = go (p x) h (λ h'. any_push p xs y h' k)
     go false h rec = rec h
 
 -- sums and counts
-pub sum_mono : {X : Type 0} (f g : X → ℕ) (xs : List X) → All (λ x. f x ≤ g x) xs → sum_by f xs ≤ sum_by g xs
+pub sum_mono : {X : Type 0} (f g : X → ℕ) (xs : List X) → AllByRecursion (λ x. f x ≤ g x) xs → sum_by f xs ≤ sum_by g xs
 sum_mono f g [] a = omega arith
 sum_mono f g (x ∷ xs) a =
     let i = sum_mono f g xs a.1 in
@@ -84,14 +84,14 @@ count_kept_le {X} p q (x ∷ xs) = go (q x) (count_kept_le p q xs)
     go true i = omega (arith, sum_by-cons (λ x. cond (p x) 1 0) x (filter q xs), sum_by-cons (λ x. cond (p x) 1 0) x xs)
     go false i = omega (arith, sum_by-cons (λ x. cond (p x) 1 0) x xs)
 
-pub count_none : {X : Type 0} (p : X → Bool) (xs : List X) → All (λ x. p x ≡ false) xs → count_by p xs ≡ 0
+pub count_none : {X : Type 0} (p : X → Bool) (xs : List X) → AllByRecursion (λ x. p x ≡ false) xs → count_by p xs ≡ 0
 count_none p [] a = refl
 count_none p (x ∷ xs) a =
     let i = count_none p xs a.1 in
     let h : ◌≡◌ {A = ℕ} (cond (p x) 1 0) 0 = rw a.0 in
     omega (arith, sum_by-cons (λ x. cond (p x) 1 0) x xs)
 
-pub all_none : {X : Type 0} (p : X → Bool) (xs : List X) → count_by p xs ≡ 0 → All (λ x. p x ≡ false) xs
+pub all_none : {X : Type 0} (p : X → Bool) (xs : List X) → count_by p xs ≡ 0 → AllByRecursion (λ x. p x ≡ false) xs
 all_none p [] e = tt
 all_none {X} p (x ∷ xs) e = (go (p x) refl, all_none p xs (omega (arith, sum_by-cons (λ x. cond (p x) 1 0) x xs)))
   where
@@ -121,7 +121,7 @@ pub or_none : {Y : Type 0} (o : Option Y) → or_else o None ≡ o
 or_none None = refl
 or_none (Some y) = refl
 
-pub first_same : {X Y : Type 0} (f g : X → Option Y) (xs : List X) → All (λ x. f x ≡ g x) xs → first f xs ≡ first g xs
+pub first_same : {X Y : Type 0} (f g : X → Option Y) (xs : List X) → AllByRecursion (λ x. f x ≡ g x) xs → first f xs ≡ first g xs
 first_same f g [] a = refl
 first_same f g (x ∷ xs) a = rw a.0 (ap (λ o. or_else (g x) o) (first_same f g xs a.1))
 
@@ -133,16 +133,16 @@ first_append {X} {Y} f (x ∷ xs) ys = ap (λ o. or_else (f x) o) (first_append 
     or_assoc None b c = refl
     or_assoc (Some y) b c = refl
 
-pub first_none : {X Y : Type 0} (f : X → Option Y) (xs : List X) → All (λ x. f x ≡ None) xs → first f xs ≡ None
+pub first_none : {X Y : Type 0} (f : X → Option Y) (xs : List X) → AllByRecursion (λ x. f x ≡ None) xs → first f xs ≡ None
 first_none f [] a = refl
 first_none f (x ∷ xs) a = rw a.0 (first_none f xs a.1)
 
 -- nothing is found, so nothing is there
-pub none_found : {X Y : Type 0} (f : X → Option Y) (xs : List X) → first f xs ≡ None → All (λ x. f x ≡ None) xs
+pub none_found : {X Y : Type 0} (f : X → Option Y) (xs : List X) → first f xs ≡ None → AllByRecursion (λ x. f x ≡ None) xs
 none_found f [] e = tt
 none_found {X} {Y} f (x ∷ xs) e = go (f x) refl e (λ e'. none_found f xs e')
   where
-    go : (o : Option Y) → f x ≡ o → or_else o (first f xs) ≡ None → (first f xs ≡ None → All (λ x. f x ≡ None) xs) → (f x ≡ None) × All (λ x. f x ≡ None) xs
+    go : (o : Option Y) → f x ≡ o → or_else o (first f xs) ≡ None → (first f xs ≡ None → AllByRecursion (λ x. f x ≡ None) xs) → (f x ≡ None) × AllByRecursion (λ x. f x ≡ None) xs
     go None p e rec = (p, rec e)
     go (Some y) p e rec = differ cc
 
@@ -152,7 +152,7 @@ and_then None f = None
 and_then (Some x) f = f x
 
 -- what is found after g changed each element
-pub first_picked : {X Y Z : Type 0} (f : Y → Option Z) (h : X → Option Z) (g : X → Option Y) (xs : List X) → All (λ x. and_then (g x) f ≡ h x) xs → first f (picked g xs) ≡ first h xs
+pub first_picked : {X Y Z : Type 0} (f : Y → Option Z) (h : X → Option Z) (g : X → Option Y) (xs : List X) → AllByRecursion (λ x. and_then (g x) f ≡ h x) xs → first f (picked g xs) ≡ first h xs
 first_picked f h g [] a = refl
 first_picked {X} {Y} {Z} f h g (x ∷ xs) a = first_append f (listed (g x)) (picked g xs) ∙ rw (one (g x) ∙ a.0) (ap (λ o. or_else (h x) o) (first_picked f h g xs a.1))
   where

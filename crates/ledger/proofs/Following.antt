@@ -4,7 +4,7 @@
 -- a new report begins at the store's stamp, which no finish passes.
 use Rattle.std.proofs.Common.{◌≡◌, ℕ, ◌+◌, ◌≤◌, Bool, true, false, cond, not, ◌&&◌, ◌||◌, eqb, ltb, leb, List, ◌∷◌, ◌++◌, map, length, get_or, set, is_some, Some, None, count_by, filter, Option, Ordering, sym, refl, ap, ◌∙◌, subst, arith}
 use mathlib.Core.Path.{fun_ext}
-use Rattle.std.specs.List.{AllByRecursion as All}
+use Rattle.std.specs.List.{AllByRecursion}
 use Rattle.std.proofs.lemmas.List.{length-set, length-map, set-get_or}
 use Rattle.std.proofs.ByRecursion.{All-weaker}
 use Rattle.std.proofs.lemmas.List.Sums.{sum_by-cons, sum_by-append}
@@ -135,7 +135,7 @@ module _ {K R : Type 0} (order : K → K → Ordering) (tot : Total order) where
           none : count_by (found (draft_in order t k)) rest ≡ 0
           none = omega (arith, one, so.one_draft t k, perm_sum f a.versions.listed, sum_by-append f (summary s).versions a.versions.freed, perm_sum f p, sum_by-cons f d rest)
 
-          alone : All (λ v. others v ≡ true) rest
+          alone : AllByRecursion (λ v. others v ≡ true) rest
           alone = All-weaker (λ v. found (draft_in order t k) v ≡ false) (λ v. others v ≡ true) (λ v h. rw h) rest (all_none (found (draft_in order t k)) rest none)
 
       -- the rest of the places, whichever one is taken

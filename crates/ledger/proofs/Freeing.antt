@@ -2,7 +2,7 @@
 -- The ledger's versions are those in the places and those that were freed. One that is wanted was never freed, and ageing leaves its place;
 -- one that still has a place after ageing, though it finished below the limit, is wanted.
 use Rattle.std.proofs.Common.{◌≡◌, ℕ, zero, suc, ◌<◌, Bool, true, false, cond, not, ◌&&◌, ltb, List, [], ◌∷◌, map, Some, None, Option, Ordering, refl, ap, subst}
-use Rattle.std.specs.List.{AllByRecursion as All, slice_get}
+use Rattle.std.specs.List.{AllByRecursion, slice_get}
 use Rattle.std.proofs.ByRecursion.{All-append, All-weaker}
 use Rattle.std.proofs.lemmas.Bool.{lt-ltb}
 use Rattle.keys.specs.Orders.{Total}
@@ -37,14 +37,14 @@ placed_later reports ps rs p r (committed k x b None) h = tt
 placed_later reports ps rs p r (committed k x b (Some f)) h = λ w. let m = h w in (suc m.0, m.1, m.2)
 
 -- ageing leaves the places of those
-placed : {K R : Type 0} (test : ℕ → Bool) (reports : List Report) (ps : List (Place K)) (rs : List R) → All (Placed reports (map (place_aged test reports) ps) rs) (versions_in ps rs)
+placed : {K R : Type 0} (test : ℕ → Bool) (reports : List Report) (ps : List (Place K)) (rs : List R) → AllByRecursion (Placed reports (map (place_aged test reports) ps) rs) (versions_in ps rs)
 placed test reports [] rs = tt
 placed test reports (p ∷ ps) [] = tt
 placed {K} {R} test reports (p ∷ ps) (r ∷ rs) =
     All-append (Placed reports (map (place_aged test reports) (p ∷ ps)) (r ∷ rs)) (listed (version_in p.state r)) (versions_in ps rs) (here p.state)
     (All-weaker (Placed reports (map (place_aged test reports) ps) rs) (Placed reports (map (place_aged test reports) (p ∷ ps)) (r ∷ rs)) (placed_later reports (map (place_aged test reports) ps) rs (place_aged test reports p) r) (versions_in ps rs) (placed test reports ps rs))
   where
-    here : (q : PlaceState K) → All (Placed reports (place_aged test reports (record { state = q }) ∷ map (place_aged test reports) ps) (r ∷ rs)) (listed (version_in q r))
+    here : (q : PlaceState K) → AllByRecursion (Placed reports (place_aged test reports (record { state = q }) ∷ map (place_aged test reports) ps) (r ∷ rs)) (listed (version_in q r))
     here Free = tt
     here (Unstamped k j) = (tt, tt)
     here (Gone k j) = (tt, tt)
@@ -78,7 +78,7 @@ still {K} test reports (p ∷ ps) zero k b f e t = here p.state (ap state_of e)
         go false w ex ew e = let ef : g ≡ f = cc in never (test g) ex (rw ef t)
 
 module _ {K R : Type 0} (order : K → K → Ordering) (tot : Total order) where
-  aged_rightly : (b : Summary K R) (before s : State K R) (limit : ℕ) → Agrees b before → s.places ≡ map (place_aged (λ f. ltb f limit) before.control.reports) before.places → s.shelf ≡ before.shelf → All (KeptOrFreed (ledger_of b) s limit) b.versions
+  aged_rightly : (b : Summary K R) (before s : State K R) (limit : ℕ) → Agrees b before → s.places ≡ map (place_aged (λ f. ltb f limit) before.control.reports) before.places → s.shelf ≡ before.shelf → AllByRecursion (KeptOrFreed (ledger_of b) s limit) b.versions
   aged_rightly b before s limit a ep es =
       perm_all (KeptOrFreed (ledger_of b) s limit) a.versions.listed
       (All-append (KeptOrFreed (ledger_of b) s limit) (versions_in before.places before.shelf) a.versions.freed

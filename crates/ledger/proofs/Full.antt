@@ -2,7 +2,7 @@
 -- A run meets the refusals of its model, whose versions are the ledger's. Only put and remove check for a place, last of all,
 -- and in the model that check counts the wanted versions.
 use Rattle.std.proofs.Common.{◌≡◌, ℕ, Bool, true, false, not, ◌&&◌, ◌↔◌, List, [], ◌∷◌, ◌++◌, Some, None, count_by, Option, Ordering, unwrap_or, sym, refl, ap, ◌∙◌, subst}
-use Rattle.std.specs.List.{AllByRecursion as All}
+use Rattle.std.specs.List.{AllByRecursion}
 use Rattle.std.proofs.lemmas.Bool.{eqb-true, eq-eqb}
 use Rattle.keys.specs.Orders.{Total}
 use Rattle.keys.specs.Refusals.{Code, plain}
@@ -23,7 +23,7 @@ use Rattle.ledger.proofs.Listed.{ledger_of, answered_granted, ledger_is}
 use Rattle.ledger.proofs.Checks.{Tells, Known, tells_when, tells_holder, tells_first, checks_tell}
 
 -- the check for a place, behind checks that are earlier in the order
-last_check : (early : List (Option Code)) → All (Tells (λ c. refused_earlier (Some c) ≡ true)) early → (d f : Bool) → refused_earlier (first (λ check. check) (early ++ (when (not d && f) (plain 10) ∷ []))) ≡ false → (first (λ check. check) (early ++ (when (not d && f) (plain 10) ∷ [])) ≡ Some (plain 10)) ↔ ((d ≡ false) × (f ≡ true))
+last_check : (early : List (Option Code)) → AllByRecursion (Tells (λ c. refused_earlier (Some c) ≡ true)) early → (d f : Bool) → refused_earlier (first (λ check. check) (early ++ (when (not d && f) (plain 10) ∷ []))) ≡ false → (first (λ check. check) (early ++ (when (not d && f) (plain 10) ∷ [])) ≡ Some (plain 10)) ↔ ((d ≡ false) × (f ≡ true))
 last_check early tell d f = subst (λ o. refused_earlier o ≡ false → (o ≡ Some (plain 10)) ↔ ((d ≡ false) × (f ≡ true))) (sym (first_append (λ check. check) early (when (not d && f) (plain 10) ∷ []))) (go (first (λ check. check) early) refl d f)
   where
     go : (o : Option Code) → first (λ check. check) early ≡ o → (d f : Bool) → refused_earlier (or_else o (or_else (when (not d && f) (plain 10)) None)) ≡ false → (or_else o (or_else (when (not d && f) (plain 10)) None) ≡ Some (plain 10)) ↔ ((d ≡ false) × (f ≡ true))

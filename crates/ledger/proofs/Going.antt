@@ -2,7 +2,7 @@
 -- A refusal needs only its code. A granted put or remove needs a place that suits: that of the job's draft, or a free one, which there is
 -- at the latest after ageing, since not every place holds a wanted version. Everything here computes, so that sessions can be run.
 use Rattle.std.proofs.Common.{◌≡◌, ℕ, zero, suc, ◌+◌, ◌<◌, Bool, true, false, cond, not, ◌&&◌, ◌||◌, eqb, ltb, List, [], ◌∷◌, ◌++◌, map, length, get_or, set, is_some, Some, None, Option, Ordering, sym, refl, ap, ◌∙◌, subst, arith}
-use Rattle.std.specs.List.{AllByRecursion as All}
+use Rattle.std.specs.List.{AllByRecursion}
 use Rattle.std.proofs.lemmas.List.{length-map, length-set}
 use Rattle.keys.specs.Refusals.{Code, plain}
 use Rattle.ledger.specs.declared.call.Call.{Call}
@@ -133,7 +133,7 @@ module _ {K R : Type 0} (order : K → K → Ordering) where
   pub room_left : (s : State K R) (c : Call K R) (n : ℕ) → sent_back order (all_wanted s.control.reports s.places) (summary s) c n ≡ None → (t : ℕ) (k : K) (d : Option R) → change c ≡ drafts t k d → (not (has_draft order t k (summary s).versions) && all_wanted s.control.reports s.places) ≡ false
   room_left s c n h t k d = go c h
     where
-      pass : (c : Call K R) → sent_back order (all_wanted s.control.reports s.places) (summary s) c n ≡ None → All (λ check. check ≡ None) (checks order (all_wanted s.control.reports s.places) (summary s) c n)
+      pass : (c : Call K R) → sent_back order (all_wanted s.control.reports s.places) (summary s) c n ≡ None → AllByRecursion (λ check. check ≡ None) (checks order (all_wanted s.control.reports s.places) (summary s) c n)
       pass c h = none_found (λ check. check) (checks order (all_wanted s.control.reports s.places) (summary s) c n) h
 
       at_key : (t' : ℕ) (k' : K) (d' : Option R) → drafts t' k' d' ≡ drafts t k d → (not (has_draft order t' k' (summary s).versions) && all_wanted s.control.reports s.places) ≡ false → (not (has_draft order t k (summary s).versions) && all_wanted s.control.reports s.places) ≡ false

@@ -1,6 +1,6 @@
 -- The least of some keys: it does not depend on their order in the list, and it is the one that is there and that no other is below.
 use Rattle.std.proofs.Common.{◌≡◌, Bool, true, false, cond, ◌⊎◌, List, [], ◌∷◌, Some, None, Option, Ordering, Less, Equal, Greater, sym, refl, ap, ◌∙◌, subst, inl, inr}
-use Rattle.std.specs.List.{AllByRecursion as All}
+use Rattle.std.specs.List.{AllByRecursion}
 use Rattle.std.proofs.ByRecursion.{All-weaker}
 use Rattle.std.specs.Ordering.{is_lt}
 use Rattle.keys.specs.Orders.{Total}
@@ -14,7 +14,7 @@ In k [] = ⊥
 In k (q ∷ qs) = (q ≡ k) ⊎ In k qs
 
 -- what holds of each of some keys holds of one of them
-pub all_in : {K : Type 0} (P : K → Type 0) (ks : List K) (k : K) → All P ks → In k ks → P k
+pub all_in : {K : Type 0} (P : K → Type 0) (ks : List K) (k : K) → AllByRecursion P ks → In k ks → P k
 all_in P [] k a i = absurd i
 all_in P (q ∷ qs) k a (inl e) = subst P e a.0
 all_in P (q ∷ qs) k a (inr i) = all_in P qs k a.1 i
@@ -88,7 +88,7 @@ module _ {K : Type 0} (order : K → K → Ordering) (tot : Total order) where
 
   -- the key is one of these, and none of them is below it
   abbrev pub IsLeast : List K → K → Type 0
-  IsLeast ks k = In k ks × All (λ q. less order q k ≡ false) ks
+  IsLeast ks k = In k ks × AllByRecursion (λ q. less order q k ≡ false) ks
 
   pub least_there : (ks : List K) (k : K) → least order ks ≡ Some k → IsLeast ks k
   least_there [] k e = differ cc

@@ -1,7 +1,7 @@
 -- What is found among versions after a draft, a commit and an abort: drafts by their job and key, the current record of a key, and what a stamp sees.
 -- Each is what was found before, but for the job's own draft, which a draft replaces, a commit makes current and an abort takes away.
 use Rattle.std.proofs.Common.{◌≡◌, ℕ, ◌+◌, ◌<◌, ◌≤◌, Bool, true, false, cond, not, ◌&&◌, eqb, List, [], ◌∷◌, is_some, Some, None, count_by, filter, Option, Ordering, unwrap_or, sym, refl, ap, ◌∙◌, subst, arith}
-use Rattle.std.specs.List.{AllByRecursion as All}
+use Rattle.std.specs.List.{AllByRecursion}
 use Rattle.std.proofs.ByRecursion.{All-weaker}
 use Rattle.std.proofs.lemmas.List.Sums.{sum_by-cons}
 use Rattle.std.proofs.lemmas.Bool.{eqb-true, ne_eqb, not-false, and_parts, and_from, cond-false}
@@ -19,7 +19,7 @@ first_record {X} {R} f (x ∷ xs) d c e = go (f x) refl e (λ c' e'. first_recor
     total : count_by (found f) (x ∷ xs) ≡ cond (found f x) 1 0 + count_by (found f) xs
     total = sum_by-cons (λ x. cond (found f x) 1 0) x xs
 
-    rest_none : (ys : List X) → All (λ y. found f y ≡ false) ys → first (λ x. draft_record (f x)) ys ≡ None
+    rest_none : (ys : List X) → AllByRecursion (λ y. found f y ≡ false) ys → first (λ x. draft_record (f x)) ys ≡ None
     rest_none [] a = refl
     rest_none (y ∷ ys) a = alone (f y) a.0 (rest_none ys a.1)
       where

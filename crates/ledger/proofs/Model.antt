@@ -3,7 +3,7 @@
 -- that were freed: superseded, and in no open report's span. Such a version is found by no look-up and counts as no wanted
 -- one, so what jobs and reports find, and how many versions are wanted, is the same in the store and in the model.
 use Rattle.std.proofs.Common.{◌≡◌, ℕ, ◌+◌, ◌≤◌, Bool, true, false, cond, ◌&&◌, ◌||◌, eqb, ltb, leb, List, [], ◌∷◌, length, Some, None, count_by, Option, Ordering, sym, refl, ◌∙◌, subst, arith}
-use Rattle.std.specs.List.{AllByRecursion as All}
+use Rattle.std.specs.List.{AllByRecursion}
 use Rattle.std.proofs.ByRecursion.{All-weaker}
 use Rattle.std.proofs.lemmas.List.Sums.{sum_by-append}
 use Rattle.std.proofs.lemmas.Bool.{le-leb, le-ltb, and_right}
@@ -54,7 +54,7 @@ InTime stamp (committed k r b (Some f)) = f ≤ stamp
 pub record Sound {K R : Type 0} (order : K → K → Ordering) (stamp : ℕ) (vs : List (Version K R)) : Type 0 where
   pub one_draft : (t : ℕ) (k : K) → count_by (found (draft_in order t k)) vs ≤ 1
   pub one_seen : (s : ℕ) (k : K) → count_by (found (seen_in order s k)) vs ≤ 1
-  pub in_time : All (InTime stamp) vs
+  pub in_time : AllByRecursion (InTime stamp) vs
 
 -- the store has the model's control state, as many places and records, and its versions but for some that were freed
 pub record Agrees {K R : Type 0} (b : Summary K R) (s : State K R) : Type 0 where
@@ -98,7 +98,7 @@ module _ {K R : Type 0} (order : K → K → Ordering) where
       go false = refl
   current_is_seen_in stamp k (committed q r b (Some f)) h = sym (when_off (same order q k) (spans b (Some f) stamp) r (and_right (leb b stamp) (ltb stamp f) (le-ltb stamp f h)))
 
-  pub current_is_seen : (stamp : ℕ) (k : K) (vs : List (Version K R)) → All (InTime stamp) vs → current_at order k vs ≡ seen_at order stamp k vs
+  pub current_is_seen : (stamp : ℕ) (k : K) (vs : List (Version K R)) → AllByRecursion (InTime stamp) vs → current_at order k vs ≡ seen_at order stamp k vs
   current_is_seen stamp k vs a =
       first_same (current_in order k) (seen_in order stamp k) vs (All-weaker (InTime stamp) (λ v. current_in order k v ≡ seen_in order stamp k v) (current_is_seen_in stamp k) vs a)
 

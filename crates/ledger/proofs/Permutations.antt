@@ -1,7 +1,7 @@
 -- Lists with the same elements in any order, and what does not depend on the order: sums, what holds of each, filters.
 -- The places of a store hold the versions of the ledger in an order of their own; this is all that is needed to see past it.
 use Rattle.std.proofs.Common.{◌≡◌, ℕ, Bool, true, false, cond, not, List, [], ◌∷◌, ◌++◌, sum_by, filter, sym, refl, ap, ◌∙◌, subst, arith}
-use Rattle.std.specs.List.{flat_map, AllByRecursion as All}
+use Rattle.std.specs.List.{flat_map, AllByRecursion}
 use Rattle.std.proofs.lemmas.List.{append-nil, append_assoc}
 use Rattle.std.proofs.lemmas.List.Sums.{sum_by-cons}
 use Rattle.ledger.specs.Words.{when, listed, picked}
@@ -51,7 +51,7 @@ perm_shift xs ys zs ws p =
     (then (perm_eq (xs ++ (ys ++ zs)) ((xs ++ ys) ++ zs) (sym (append_assoc xs ys zs)))
     (then (perm_append_right zs (perm_turn xs ys)) (perm_eq ((ys ++ xs) ++ zs) (ys ++ (xs ++ zs)) (append_assoc ys xs zs))))
 
-pub perm_all : {X : Type 0} (P : X → Type 0) {xs ys : List X} → Perm xs ys → All P xs → All P ys
+pub perm_all : {X : Type 0} (P : X → Type 0) {xs ys : List X} → Perm xs ys → AllByRecursion P xs → AllByRecursion P ys
 perm_all P none a = a
 perm_all P (skip p) a = (a.0, perm_all P p a.1)
 perm_all P (swap p) a = (a.1.0, (a.0, perm_all P p a.1.1))

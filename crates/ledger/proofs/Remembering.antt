@@ -4,7 +4,7 @@
 -- Each call keeps this: a draft comes in front of the job's earlier ones; a commit makes the job's drafts current and leaves what earlier
 -- stamps see; a report begins at the present stamp, which sees what is current. Tickets are below the next one, so a new one is nobody's.
 use Rattle.std.proofs.Common.{◌≡◌, ℕ, ◌+◌, ◌<◌, ◌≤◌, Bool, true, false, cond, not, ◌&&◌, ◌||◌, eqb, ◌⊎◌, List, [], ◌∷◌, ◌++◌, is_some, Some, None, Option, Ordering, sym, refl, ap, ◌∙◌, inl, inr, arith}
-use Rattle.std.specs.List.{AllByRecursion as All}
+use Rattle.std.specs.List.{AllByRecursion}
 use Rattle.std.proofs.ByRecursion.{All-push, all_kept_by, All-weaker}
 use Rattle.std.proofs.lemmas.Bool.{eqb-true, eq-eqb, ne_eqb, eqb-false}
 use Rattle.keys.specs.Orders.{Total}
@@ -91,8 +91,8 @@ module _ {K R : Type 0} (order : K → K → Ordering) (tot : Total order) where
   pub record Remembers (b : Summary K R) (past : List (Exchange K R)) : Type 0 where
     pub drafts : (j : ℕ) → Live b.control j → (k : K) → draft_at order j k b.versions ≡ last_draft order j k past
     pub current : (k : K) → current_at order k b.versions ≡ left order k past
-    pub seen : All (Sees b.versions past) b.control.reports
-    pub earlier : All (Earlier b.control.stamp b.control.next) b.control.reports
+    pub seen : AllByRecursion (Sees b.versions past) b.control.reports
+    pub earlier : AllByRecursion (Earlier b.control.stamp b.control.next) b.control.reports
     pub jobs : (j : ℕ) → open_job j b.control.jobs ≡ true → j < b.control.next
 
   -- one granted call more
@@ -117,7 +117,7 @@ module _ {K R : Type 0} (order : K → K → Ordering) (tot : Total order) where
     jobs_held false t k j o = m.jobs j o
 
     -- open reports see what they saw where the versions that they see are the same
-    sees_after : (vs : List (Version K R)) → ((r : Report) → Earlier b.control.stamp b.control.next r → (k : K) → seen_at order r.stamp k vs ≡ seen_at order r.stamp k b.versions) → All (Sees vs past) b.control.reports
+    sees_after : (vs : List (Version K R)) → ((r : Report) → Earlier b.control.stamp b.control.next r → (k : K) → seen_at order r.stamp k vs ≡ seen_at order r.stamp k b.versions) → AllByRecursion (Sees vs past) b.control.reports
     sees_after vs same_seen = all_both (Earlier b.control.stamp b.control.next) (Sees b.versions past) (Sees vs past) (λ r h sees k. same_seen r h k ∙ sees k) b.control.reports m.earlier m.seen
 
     -- a ticket that is given out now is no open report's
@@ -128,7 +128,7 @@ module _ {K R : Type 0} (order : K → K → Ordering) (tot : Total order) where
     older j (inl o) = inl o
     older j (inr o) = inr (omega arith)
 
-    later_ticket : All (Earlier b.control.stamp (b.control.next + 1)) b.control.reports
+    later_ticket : AllByRecursion (Earlier b.control.stamp (b.control.next + 1)) b.control.reports
     later_ticket = All-weaker (Earlier b.control.stamp b.control.next) (Earlier b.control.stamp (b.control.next + 1)) (λ r h. omega arith) b.control.reports m.earlier
 
     remembers_report : (n : ℕ) → Remembers (moved_on order None b (Basic BeginReport)) (newest (Basic BeginReport) n ∷ past)
@@ -176,7 +176,7 @@ module _ {K R : Type 0} (order : K → K → Ordering) (tot : Total order) where
     current_kept : (t : ℕ) (k : K) (d : Option R) (q : K) → current_at order q (drafted order t k d b.versions) ≡ left order q past
     current_kept t k d q = current_drafted order tot t k d b.versions q ∙ m.current q
 
-    seen_kept : (t : ℕ) (k : K) (d : Option R) → All (Sees (drafted order t k d b.versions) past) b.control.reports
+    seen_kept : (t : ℕ) (k : K) (d : Option R) → AllByRecursion (Sees (drafted order t k d b.versions) past) b.control.reports
     seen_kept t k d = sees_after (drafted order t k d b.versions) (λ r h q. seen_drafted order tot t k d b.versions r.stamp q)
 
     remembers_commit : (t : TicketId) (n : ℕ) → open_job t.number b.control.jobs ≡ true → Remembers (moved_on order None b (Basic (Commit t))) (newest (Basic (Commit t)) n ∷ past)

@@ -1,7 +1,7 @@
 -- What a commit makes of one version, and so of all: where the job drafted, its draft is what is current from the new stamp on;
 -- elsewhere what was current stays; every earlier stamp sees what it saw; and other jobs keep their drafts.
 use Rattle.std.proofs.Common.{◌≡◌, ℕ, ◌+◌, ◌<◌, Bool, true, false, cond, ◌&&◌, eqb, ltb, leb, [], ◌∷◌, Some, None, Option, Ordering, Less, Equal, Greater, sym, refl, ap, ◌∙◌, arith}
-use Rattle.std.specs.List.{AllByRecursion as All}
+use Rattle.std.specs.List.{AllByRecursion}
 use Rattle.std.proofs.lemmas.Bool.{eqb-true, eqb-false, lt-leb, lt-ltb, cond-true, cond-false}
 use Rattle.std.specs.Option.{option_map}
 use Rattle.std.specs.Ordering.{is_eq}
@@ -104,16 +104,16 @@ module _ {K R : Type 0} (order : K → K → Ordering) (tot : Total order) (t st
   pub settled_elsewhere : (k : K) → written k ≡ false → (v : Version K R) → draft_in order t k v ≡ None → and_then (settled order t stamp written v) (current_in order k) ≡ current_in order k v
   settled_elsewhere k w v n = settled_current k v (λ _. n) ∙ cond-false (written k) (draft_record (draft_in order t k v)) (current_in order k v) w
 
-  pub settled_in_time : (before : ℕ) → stamp ≡ before + 1 → (v : Version K R) → InTime before v → All (InTime stamp) (listed (settled order t stamp written v))
+  pub settled_in_time : (before : ℕ) → stamp ≡ before + 1 → (v : Version K R) → InTime before v → AllByRecursion (InTime stamp) (listed (settled order t stamp written v))
   settled_in_time before e (draft i q d) h = go (eqb i t) d
     where
-      go : (x : Bool) (d : Option R) → All (InTime stamp) (listed (cond x (option_map (λ r. committed q r stamp None) d) (Some (draft i q d))))
+      go : (x : Bool) (d : Option R) → AllByRecursion (InTime stamp) (listed (cond x (option_map (λ r. committed q r stamp None) d) (Some (draft i q d))))
       go true None = tt
       go true (Some r) = (omega arith, tt)
       go false d = (tt, tt)
   settled_in_time before e (committed q r b None) h = go (written q)
     where
-      go : (x : Bool) → All (InTime stamp) (committed q r b (when x stamp) ∷ [])
+      go : (x : Bool) → AllByRecursion (InTime stamp) (committed q r b (when x stamp) ∷ [])
       go true = (omega arith, tt)
       go false = (omega arith, tt)
   settled_in_time before e (committed q r b (Some f)) h = (omega arith, tt)

@@ -2,7 +2,7 @@
 -- A filter takes away only. A draft replaces the one that was there. A commit turns at most one draft of a key into its current
 -- version and finishes the one before; earlier stamps see what they saw, and the new one sees just what is current.
 use Rattle.std.proofs.Common.{◌≡◌, ℕ, ◌+◌, ◌<◌, ◌≤◌, Bool, true, false, cond, not, eqb, ◌⊎◌, List, ◌∷◌, is_some, Some, None, count_by, filter, Option, Ordering, sym, refl, ◌∙◌, inl, inr, arith}
-use Rattle.std.specs.List.{AllByRecursion as All}
+use Rattle.std.specs.List.{AllByRecursion}
 use Rattle.std.proofs.ByRecursion.{all_kept_by, All-weaker, kept_by_passes}
 use Rattle.std.proofs.lemmas.List.Sums.{sum_by-cons}
 use Rattle.std.proofs.lemmas.Bool.{eqb-true, cases_lt, not-true}
@@ -24,7 +24,7 @@ in_time_later before s h (committed q r b None) i = omega arith
 in_time_later before s h (committed q r b (Some f)) i = omega arith
 
 -- what is found no more often in each element is found no more often in all
-count_le : {X Y Z : Type 0} (f : X → Option Y) (g : X → Option Z) (P : X → Type 0) → ((x : X) → P x → cond (is_some (f x)) 1 0 ≤ cond (is_some (g x)) 1 0) → (xs : List X) → All P xs → count_by (found f) xs ≤ count_by (found g) xs
+count_le : {X Y Z : Type 0} (f : X → Option Y) (g : X → Option Z) (P : X → Type 0) → ((x : X) → P x → cond (is_some (f x)) 1 0 ≤ cond (is_some (g x)) 1 0) → (xs : List X) → AllByRecursion P xs → count_by (found f) xs ≤ count_by (found g) xs
 count_le f g P h xs a = sum_mono (λ x. cond (is_some (f x)) 1 0) (λ x. cond (is_some (g x)) 1 0) xs (All-weaker P (λ x. cond (is_some (f x)) 1 0 ≤ cond (is_some (g x)) 1 0) h xs a)
 
 module _ {K R : Type 0} (order : K → K → Ordering) (tot : Total order) where
@@ -82,7 +82,7 @@ module _ {K R : Type 0} (order : K → K → Ordering) (tot : Total order) where
     unfolding g
     late s k h v i = go (g v) (settled_in_time order tot t (st + 1) written st refl v i)
       where
-        go : (o : Option (Version K R)) → All (InTime (st + 1)) (listed o) → and_then o (seen_in order s k) ≡ and_then o (current_in order k)
+        go : (o : Option (Version K R)) → AllByRecursion (InTime (st + 1)) (listed o) → and_then o (seen_in order s k) ≡ and_then o (current_in order k)
         go None a = refl
         go (Some w) a = sym (current_is_seen_in order s k w (in_time_later (st + 1) s h w a.0))
 
@@ -135,7 +135,7 @@ module _ {K R : Type 0} (order : K → K → Ordering) (tot : Total order) where
     sound_settled = record {
       one_draft = one_draft_after;
       one_seen = λ s k. one_seen_after s k (cases_lt s (st + 1)) (written k) refl;
-      in_time = all_picked (InTime (st + 1)) g vs (All-weaker (InTime st) (λ v. All (InTime (st + 1)) (listed (g v))) (settled_in_time order tot t (st + 1) written st refl) vs so.in_time);
+      in_time = all_picked (InTime (st + 1)) g vs (All-weaker (InTime st) (λ v. AllByRecursion (InTime (st + 1)) (listed (g v))) (settled_in_time order tot t (st + 1) written st refl) vs so.in_time);
     }
 
   -- a call that met this refusal, or none, leaves the model sound

@@ -1,7 +1,7 @@
 -- (a), and what look and walk answer: the answers of every run, said of the list of calls alone.
 -- A run answers as its model does, and the model remembers the past; so what a report sees, what a job finds and which keys a report sees are what the list says.
 use Rattle.std.proofs.Common.{◌≡◌, ℕ, Bool, true, false, ◌&&◌, eqb, List, [], ◌∷◌, ◌++◌, is_some, Some, None, Option, Ordering, sym, refl, ap, ◌∙◌, subst, inl, inr}
-use Rattle.std.specs.List.{AllByRecursion as All}
+use Rattle.std.specs.List.{AllByRecursion}
 use Rattle.std.proofs.lemmas.Bool.{eqb-true, and_parts, and_from}
 use Rattle.std.specs.Ordering.{is_eq}
 use Rattle.keys.specs.Orders.{Total}
@@ -29,7 +29,7 @@ use Rattle.ledger.proofs.Runs.{is_open, is_own, replied, age_is, model_of, model
 use Rattle.ledger.proofs.Remembering.{Remembers, job_is_open, remembers, remembers_refused, remembers_age}
 
 -- the open report with the running number
-at_report : (P : ℕ → ℕ → Type 0) (t st : ℕ) (rs : List Report) → All (λ r. P r.ticket r.stamp) rs → report_at t rs ≡ Some st → P t st
+at_report : (P : ℕ → ℕ → Type 0) (t st : ℕ) (rs : List Report) → AllByRecursion (λ r. P r.ticket r.stamp) rs → report_at t rs ≡ Some st → P t st
 at_report P t st [] a e = differ cc
 at_report P t st (x ∷ rs) a e = go (eqb x.ticket t) refl e (λ e'. at_report P t st rs a.1 e')
   where

@@ -2,7 +2,7 @@
 -- The laws speak of calls, answers and the ledger; only what ageing frees is said of places.
 use Rattle.std.specs.Prelude.{◌≡◌, ℕ, ◌<◌, Bool, true, false, cond, not, ◌&&◌, ◌↔◌, List, [], ◌∷◌, map, is_some, Some, None, filter, Option, ◌==◌, nat_eq}
 use Rattle.std.specs.declared.cmp.Ordering.{Ordering}
-use Rattle.std.specs.List.{AllByRecursion as All, slice_get}
+use Rattle.std.specs.List.{AllByRecursion, slice_get}
 use Rattle.std.specs.Option.{unwrap_or}
 use Rattle.keys.specs.Refusals.{Code, plain}
 use Rattle.ledger.specs.declared.call.TicketId.{TicketId}
@@ -130,7 +130,7 @@ module _ {K R : Type 0} (order : K → K → Ordering) (o : Numbers) where
 
   -- (c) after an age call every version of the ledger that finished below its limit is kept or freed rightly
   abbrev pub AgeFrees : State K R → Exchange K R → List (Exchange K R) → Type 0
-  AgeFrees s e past = (limit : ℕ) → e.call ≡ Basic (Age limit) → let l = ledger order o.stamp past in All (KeptOrFreed l s limit) l.versions
+  AgeFrees s e past = (limit : ℕ) → e.call ≡ Basic (Age limit) → let l = ledger order o.stamp past in AllByRecursion (KeptOrFreed l s limit) l.versions
 
   -- every call after the run has an answer
   abbrev pub Goes_on : List (Exchange K R) → Type 0
