@@ -4,4 +4,4 @@ use Rattle.tree_index.proofs.lookup.least_beyond.Given as goal
 
 -- what answers for the tree at the link, or else the best so far, answers for the whole
 abbrev pub invariant-loop-turn : goal.invariant-loop-turn
-invariant-loop-turn g l = OnTheWay g.row.K-Key.order l.nodes l.initial.at l.at (length l.nodes - l.-turn) (LeastIn g.row.K-Key.order l.given) (λ least. or_else least l.best)
+invariant-loop-turn g l = OnTheWay g.K.Key.order l.nodes l.initial.at l.at (length l.nodes - l._turn) (LeastIn g.K.Key.order l.given) (λ least. or_else least l.best)

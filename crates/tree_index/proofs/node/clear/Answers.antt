@@ -19,6 +19,6 @@ returns g c =
     let alike : c.loop-place.nodes ≡ replicate (length c.args.nodes.now) (childless None) =
     all_alike c.loop-place.nodes (childless None) (λ n h. c.loop-place.invariant n (omega arith)) ∙ ap (λ n. replicate n (childless None)) long in
     record {
-      kept = empty_sound g.row.K-Key.order g.met.K.Key.total c.loop-place.nodes (length c.args.nodes.now) alike;
-      after = empty_slots g.row.K-Key.order g.met.K.Key.total c.loop-place.nodes (length c.args.nodes.now) alike;
+      kept = empty_sound g.K.Key.order g.met.K.Key.total c.loop-place.nodes (length c.args.nodes.now) alike;
+      after = empty_slots g.K.Key.order g.met.K.Key.total c.loop-place.nodes (length c.args.nodes.now) alike;
     }

@@ -3,7 +3,7 @@ use Rattle.bucket_index.proofs.Buckets.{keys_set_length, unlinked_outside}
 use Rattle.bucket_index.proofs.bucket.BucketIndex.unlink.Goals as goal
 
 pub invariant_of-self-then-number-lt-CAPACITY : goal.invariant_of-self-then-number-lt-CAPACITY
-invariant_of-self-then-number-lt-CAPACITY c = ((c.args.self.now.sizes.0, keys_set_length _ _ _ ∙ c.args.self.now.sizes.1), tt)
+invariant_of-self-then-number-lt-CAPACITY c = record { sizes = (c.args.self.now.sizes.0, keys_set_length _ _ _ ∙ c.args.self.now.sizes.1) }
 
 pub returns-else-number-lt-CAPACITY : goal.returns-else-number-lt-CAPACITY
 returns-else-number-lt-CAPACITY c =
