@@ -4,7 +4,7 @@
 //!     drive --print SEED
 //!
 //! Without --program the program under test is that of the environment's
-//! TABLET, or else ../target/bin/tablet. The reference is the one that lies
+//! TABLET, or else ../crates/tablet/out/tablet. The reference is the one that lies
 //! beside this program. At the first difference the session is written to
 //! the file of --keep (target/difference.txt). The second form prints the
 //! session of a seed and runs nothing.
@@ -70,7 +70,7 @@ fn main() -> ExitCode {
 }
 
 fn read_order() -> Result<Order, String> {
-    let program = env::var_os("TABLET").unwrap_or_else(|| "../target/bin/tablet".into());
+    let program = env::var_os("TABLET").unwrap_or_else(|| "../crates/tablet/out/tablet".into());
     let mut order = Order {
         program: PathBuf::from(program),
         reference: beside_this_program("reference")?,
