@@ -3,7 +3,7 @@
 use Rattle.std.proofs.Common.{◌≡◌, ℕ, ◌+◌, ◌<◌, Bool, true, false, cond, List, [], ◌∷◌, ◌++◌, length, get_or, take, drop, sym, refl, ap, ◌∙◌, subst, inl, inr, append_assoc, arith}
 use Rattle.std.proofs.lemmas.List.{take-append-drop, drop_more}
 use Rattle.std.proofs.lemmas.Bool.{cases_eq, ne_eqb, cases_Bool}
-use Rattle.std.specs.List.{flat_map, AllByRecursion as All}
+use Rattle.std.specs.List.{flat_map, AllByRecursion}
 use Rattle.page.specs.Texts.{ended}
 use Rattle.lines.specs.Inputs.{prepend, input_lines, closed, OneLine, LinesOf}
 
@@ -38,7 +38,7 @@ only_line [] rest h l e = absurd (omega arith)
 only_line (byte ∷ s) rest h l e = cut_last byte s l ∙ ap (λ ls. (byte ∷ s) ∷ ls) (sym (no_lines rest e))
 
 -- cutting undoes joining
-pub cut_joined : (lines : List (List ℕ)) → All OneLine lines → input_lines (flat_map ended lines) ≡ lines
+pub cut_joined : (lines : List (List ℕ)) → AllByRecursion OneLine lines → input_lines (flat_map ended lines) ≡ lines
 cut_joined [] h = no_lines [] refl
 cut_joined (line ∷ lines) h =
     ap input_lines (append_assoc line (10 ∷ []) (flat_map ended lines)) ∙ cut_line line (flat_map ended lines) h.0
@@ -99,7 +99,7 @@ whole_other byte (next ∷ s) n w =
     ap (flat_map ended) (at_other byte (next ∷ s) n) ∙ joined_prepend byte (input_lines (next ∷ s)) (some_lines next s)
     ∙ ap (λ xs. byte ∷ xs) w ∙ cond_cons (closed (next ∷ s)) byte (next ∷ s) (ended (next ∷ s))
 
-single_prepend : (byte : ℕ) (lines : List (List ℕ)) → (byte ≡ 10 → ⊥) → All OneLine lines → All OneLine (prepend byte lines)
+single_prepend : (byte : ℕ) (lines : List (List ℕ)) → (byte ≡ 10 → ⊥) → AllByRecursion OneLine lines → AllByRecursion OneLine (prepend byte lines)
 single_prepend byte [] n h = ((n, tt), tt)
 single_prepend byte (line ∷ lines) n h = ((n, h.0), h.1)
 
@@ -107,7 +107,7 @@ pub lines_of : (s : List ℕ) → LinesOf s (input_lines s)
 lines_of s = record {
   whole = by_first Whole (ap (flat_map ended) (no_lines [] refl)) whole_end whole_other s;
   single =
-      by_first (λ s. All OneLine (input_lines s)) (rw (no_lines [] refl) tt) (λ bytes h. rw (at_end bytes) (tt, h))
+      by_first (λ s. AllByRecursion OneLine (input_lines s)) (rw (no_lines [] refl) tt) (λ bytes h. rw (at_end bytes) (tt, h))
       (λ byte bytes n h. rw (at_other byte bytes n) (single_prepend byte (input_lines bytes) n h)) s;
 }
 

@@ -1,7 +1,7 @@
 -- The lines of an input. Each ends in byte 10, which the last may lack.
 -- An empty input has no line, and one that ends in byte 10 has no further line behind it.
 use Rattle.std.specs.Prelude.{◌≡◌, ℕ, Bool, true, cond, List, [], ◌∷◌, Some, None, Option, ◌==◌, ◌≢◌}
-use Rattle.std.specs.List.{flat_map, AllByRecursion as All}
+use Rattle.std.specs.List.{flat_map, AllByRecursion}
 use Rattle.page.specs.Texts.{ended}
 
 -- lines with one more byte in front of the first
@@ -22,12 +22,12 @@ closed (byte ∷ next ∷ bytes) = closed (next ∷ bytes)
 
 -- a text with no byte 10 in it
 abbrev pub OneLine : List ℕ → Type 0
-OneLine text = All (λ byte. byte ≢ 10) text
+OneLine text = AllByRecursion (λ byte. byte ≢ 10) text
 
 -- the lines, each with its byte 10, are the input, with a byte 10 added where the last lacks it
 pub record LinesOf (input : List ℕ) (lines : List (List ℕ)) : Type 0 where
   pub whole : flat_map ended lines ≡ cond (closed input) input (ended input)
-  pub single : All OneLine lines
+  pub single : AllByRecursion OneLine lines
 
 -- the first line is taken off; or there is none
 abbrev pub TakesLine : List (List ℕ) → Option (List ℕ) → List (List ℕ) → Type 0

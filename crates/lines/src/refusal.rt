@@ -3,7 +3,7 @@
 ghost use Rattle.keys.specs.Refusals.{plain};
 ghost use Rattle.ledger.specs.Refusals.{code as store_code};
 ghost use Rattle.lines.specs.Answers.{line_code, refusal_text};
-ghost use Rattle.text.specs.Refusals.{code as text-code};
+ghost use Rattle.text.specs.Refusals.{code as text_code};
 ghost use Rattle.std.specs.Prelude.{◌≡◌};
 
 use ledger::Refusal;
@@ -20,7 +20,7 @@ pub struct RefusalLine {
 impl RefusalLine {
     // The line of a text that does not follow its form.
     pub fn of_text(refusal: TextRefusal) -> RefusalLine
-        ensures answer { line_code result ≡ text-code refusal }
+        ensures answer { line_code result ≡ text_code refusal }
     {
         numbered(refusal.number())
     }

@@ -1,7 +1,7 @@
 -- Vehicle keys as text: what is read is the key's own text, and the text of every key reads back.
 -- Digits that were read are those of vehicle characters, so their numbers are spelled, which is what a key asks for;
 -- and the digits of spelled numbers stand for themselves, so they read back.
-use Rattle.std.proofs.Common.{◌≡◌, ℕ, ◌+◌, ◌-◌, ◌/◌, ◌%◌, ◌<◌, true, cond, eqb, List, [], ◌++◌, length, take, drop, IfOk, Some, None, Option, Result, sym, refl, ap, ◌∙◌, append-nil, arith, length-append, length-drop, take-append-drop, length-take, MatchResult}
+use Rattle.std.proofs.Common.{◌≡◌, ℕ, ◌-◌, ◌/◌, ◌%◌, ◌<◌, true, cond, eqb, List, [], ◌++◌, length, take, drop, IfOk, Some, None, Option, Result, sym, refl, ap, ◌∙◌, append-nil, arith, length-append, length-drop, take-append-drop, length-take, MatchResult}
 use borrow.Rule.Slice.PartMut.{put_mid}
 use lib.Arith.{digits_div, digits_mod}
 use Rattle.std.proofs.lemmas.List.{drop_all, drop_at, take_at, take_rest}

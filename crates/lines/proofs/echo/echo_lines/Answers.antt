@@ -9,7 +9,7 @@ use Rattle.lines.proofs.echo.echo_lines.Goals as goal
 
 pub loop-line-init : goal.loop-line-init
 loop-line-init c =
-    let all = ap (λ (lines : InputLines). input_lines lines.rest.now) c.into_iter-line-iterator.ensures.into_iter-gives ∙ c.new-line-items.ensures.lines in
+    let all = ap (λ (lines : InputLines). input_lines lines.rest.now) c.into_iter-line-iterator.ensures.into_iter_gives ∙ c.new-line-items.ensures.lines in
     (λ after r k. subst (λ (lines : List (List ℕ)). Printed (of_page c.args.page.now) (map echo_text lines) after r) all k, refl)
 
 pub loop-line-preserved : goal.loop-line-preserved

@@ -11,8 +11,8 @@ pub returns-then-s-ne-CODE_KEY_LENGTH : goal.returns-then-s-ne-CODE_KEY_LENGTH
 unfolding code_key_of
 returns-then-s-ne-CODE_KEY_LENGTH c =
     elim c.then-s-ne-CODE_KEY_LENGTH.branch [
-      | no_length w ↦ record { answer = sym (cond-false _ _ _ (and_left _ _ (ne_eqb _ 10 w.if-s-ne-CODE_KEY_LENGTH.taken))) }
-      | no_colon w ↦ record { answer = sym (cond-false _ _ _ (and_right _ _ (ne_eqb _ 58 w.if-s-ne-COLON.taken))) }
+      | no_length w ↦ record { answer = sym (cond-false _ _ _ (and_left _ _ (ne_eqb _ 10 w.if-s-ne-CODE_KEY_LENGTH.true))) }
+      | no_colon w ↦ record { answer = sym (cond-false _ _ _ (and_right _ _ (ne_eqb _ 58 w.if-s-ne-COLON.true))) }
     ]
 
 pub returns : goal.returns

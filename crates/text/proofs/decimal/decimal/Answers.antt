@@ -6,9 +6,9 @@ pub returns-in_default : goal.returns-in_default
 unfolding decimal_of
 returns-in_default c = search rules
 
-pub returns-in_empty : goal.returns-in_empty
+pub returns-in-empty : goal.returns-in-empty
 unfolding decimal_of
-returns-in_empty c = search rules
+returns-in-empty c = search rules
 
 pub returns-in-48 : goal.returns-in-48
 unfolding decimal_of

@@ -26,7 +26,7 @@ invariant_of-result c =
     let length = c.if-s-ne-LENGTH.false in
     let first = first_read s _ length c.number.ensures.answer in
     let second = second_read s _ length c.number-2.ensures.answer in
-    (pair_spelled s _ _ length (sym first ∙ c.in_ok-first.was) (sym second ∙ c.in_ok-second.was), tt)
+    record { spelled = pair_spelled s _ _ length (sym first ∙ c.in_ok-first.was) (sym second ∙ c.in_ok-second.was) }
 
 pub returns : goal.returns
 unfolding vehicle_key_of
