@@ -1,4 +1,4 @@
--- What a call checks of the table is what the ledger has it check of the store's state: the look_up of tickets, and who holds a key.
+-- What a call checks of the table is what the ledger has it check of the store's state: the look-up of tickets, and who holds a key.
 -- These hold of every table; what depends on soundness (drafts, rows, places) is in Held.
 use Rattle.std.proofs.Common.{◌≡◌, ℕ, zero, suc, ◌<◌, Bool, true, false, cond, not, ◌&&◌, ◌||◌, eqb, List, [], ◌∷◌, ◌++◌, length, get_or, is_some, Some, None, Option, Ordering, sym, refl, ap, ◌∙◌, subst, arith}
 use Rattle.std.specs.Option.{option_map}
