@@ -20,7 +20,7 @@ use Rattle.ledger.specs.Versions.{draft_at, has_draft}
 use Rattle.ledger.specs.Refusals.{code}
 use Rattle.ledger.specs.Calls.{Exchange, Change, keeps, drafts, commits, aborts, ages, change}
 use Rattle.ledger.specs.Steps.{State, summary, version_in, versions_in, all_wanted, checks, sent_back, answered, control_after, place_settled, place_aborted, place_aged, draft_event, shelved, ready, Takes, Moves, Outcome, Step, Numbers, Run}
-use Rattle.ledger.specs.Laws.{Goes_on}
+use Rattle.ledger.specs.Laws.{GoesOn}
 use Rattle.ledger.proofs.Finding.{never, differ, none_found}
 use Rattle.ledger.proofs.Codes.{refusal_of}
 use Rattle.ledger.proofs.Checks.{Known, tells_first, checks_tell, passed}
@@ -180,5 +180,5 @@ module _ {K R : Type 0} (order : K → K → Ordering) where
           let s' : State K R = record { control = control_after order (summary s) c; places = m.places; shelf = m.shelf } in
           record { answer = a; after = s'; step = subst (λ x. Outcome order x s (record { call = c; shelf = n; answer = a }) s') (sym e) (record { answer = refl; control = refl; moves = m.moves }); lengths = m.lengths }
 
-  pub goes_on : (o : Numbers) (past : List (Exchange K R)) (s : State K R) → length s.shelf ≡ length s.places → Run order o past s → Goes_on order o past
+  pub goes_on : (o : Numbers) (past : List (Exchange K R)) (s : State K R) → length s.shelf ≡ length s.places → Run order o past s → GoesOn order o past
   goes_on o past s el r c n = let a = answers s el c n in (a.answer, a.after, (s, r, a.step))

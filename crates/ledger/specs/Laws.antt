@@ -133,8 +133,8 @@ module _ {K R : Type 0} (order : K → K → Ordering) (o : Numbers) where
   AgeFrees s e past = (limit : ℕ) → e.call ≡ Basic (Age limit) → let l = ledger order o.stamp past in AllByRecursion (KeptOrFreed l s limit) l.versions
 
   -- every call after the run has an answer
-  abbrev pub Goes_on : List (Exchange K R) → Type 0
-  Goes_on past = (c : Call K R) (n : ℕ) → (a : Answer K R) × (s' : State K R) × Run order o (record { call = c; shelf = n; answer = a } ∷ past) s'
+  abbrev pub GoesOn : List (Exchange K R) → Type 0
+  GoesOn past = (c : Call K R) (n : ℕ) → (a : Answer K R) × (s' : State K R) × Run order o (record { call = c; shelf = n; answer = a } ∷ past) s'
 
   -- what is true of a list of calls that led from the opening to the store
   pub record Law (past : List (Exchange K R)) (s : State K R) : Type 0 where
@@ -144,7 +144,7 @@ module _ {K R : Type 0} (order : K → K → Ordering) (o : Numbers) where
     pub unseen : AgeIsUnseen past
     pub full : EachCall FullIsFull past
     pub freed : Newest (AgeFrees s) past
-    pub goes : Goes_on past
+    pub goes : GoesOn past
 
 -- the law holds of every run
 abbrev pub LawOfRuns : (K R : Type 0) → (K → K → Ordering) → Type 0
