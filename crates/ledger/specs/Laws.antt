@@ -1,6 +1,6 @@
 -- What is true of every run of a store.
 -- The laws speak of calls, answers and the ledger; only what ageing frees is said of places.
-use Rattle.std.specs.Prelude.{◌≡◌, ℕ, ◌<◌, Bool, true, false, cond, not, ◌&&◌, ◌↔◌, List, [], ◌∷◌, map, is_some, Some, None, filter, Option, ◌==◌, nat_eq}
+use Rattle.std.specs.Prelude.{◌≡◌, ℕ, ◌<◌, Bool, true, false, cond, not, ◌&&◌, ◌↔◌, List, [], ◌∷◌, map, is_some, Some, None, filter, Option, ◌==◌}
 use Rattle.std.specs.declared.cmp.Ordering.{Ordering}
 use Rattle.std.specs.List.{AllByRecursion, slice_get}
 use Rattle.std.specs.Option.{unwrap_or}
@@ -97,7 +97,7 @@ answers = map (λ e. e.answer)
 -- refused before the places are looked at: at the ticket, the shelf, the key or the row
 abbrev pub refused_earlier : Option Code → Bool
 refused_earlier None = false
-refused_earlier (Some why) = any (λ n. nat_eq n why.number) (4 ∷ 3 ∷ 7 ∷ 8 ∷ 9 ∷ [])
+refused_earlier (Some why) = any (λ n. n == why.number) (4 ∷ 3 ∷ 7 ∷ 8 ∷ 9 ∷ [])
 
 -- put and remove need a place when their job has no draft at the key
 abbrev pub NeedsPlace : {K R : Type 0} → (K → K → Ordering) → List (Version K R) → Change K R → Type 0

@@ -1,7 +1,7 @@
 -- A store by its control state, its places and its shelf: what each call checks, answers and moves, and the runs of calls from an opening on.
 -- Refusals, answers and the control state afterwards go by a summary, which does not tell which place holds what.
 -- Only the place that a put or remove takes among free ones is left open.
-use Rattle.std.specs.Prelude.{◌≡◌, ℕ, ◌+◌, ◌<◌, Bool, true, cond, not, ◌&&◌, ◌||◌, ltb, List, [], ◌∷◌, ◌++◌, map, length, get_or, replicate, is_some, Some, None, count_by, Option, ◌==◌, nat_le, nat_lt, slice_index_or, slice_set}
+use Rattle.std.specs.Prelude.{◌≡◌, ℕ, ◌+◌, ◌<◌, Bool, true, cond, not, ◌&&◌, ◌||◌, List, [], ◌∷◌, ◌++◌, map, length, replicate, is_some, Some, None, count_by, Option, ◌==◌, nat_le, nat_lt, slice_index_or, slice_set}
 use Rattle.std.specs.declared.cmp.Ordering.{Ordering}
 use Rattle.std.specs.Option.{unwrap_or}
 use Rattle.keys.specs.Refusals.{Code, plain}
@@ -144,7 +144,7 @@ module _ {K R : Type 0} (order : K → K → Ordering) where
   answered b (Basic (Abort t)) = Done
   answered b (Basic (End t)) = Done
   answered b (Basic (Age limit)) =
-      Aged (count_by (finished (λ f. ltb f limit)) b.versions) (count_by (λ v. finished (λ f. ltb f limit) v && not (wanted b.control.reports v)) b.versions)
+      Aged (count_by (finished (λ f. nat_lt f limit)) b.versions) (count_by (λ v. finished (λ f. nat_lt f limit) v && not (wanted b.control.reports v)) b.versions)
 
   -- the control state after a granted call
   abbrev pub control_after : Summary K R → Call K R → Control K
@@ -193,7 +193,7 @@ module _ {K R : Type 0} (order : K → K → Ordering) where
 
   -- a put or remove takes any place that suits
   abbrev pub Takes : State K R → ℕ → K → ℕ → Type 0
-  Takes s t k n = (n < length s.places) × (suits s t k (get_or (ready s t k) n free).state ≡ true)
+  Takes s t k n = (n < length s.places) × (suits s t k (slice_index_or (ready s t k) n free).state ≡ true)
 
   -- how a granted call moves the places and the shelf
   abbrev pub Moves : State K R → Change K R → List (Place K) → List R → Type 0
@@ -201,7 +201,7 @@ module _ {K R : Type 0} (order : K → K → Ordering) where
   Moves s (drafts t k d) places shelf = (n : ℕ) × Takes s t k n × (places ≡ slice_set (ready s t k) n (after (slice_index_or (ready s t k) n free) (draft_event t k d))) × (shelf ≡ shelved d n s.shelf)
   Moves s (commits t) places shelf = (places ≡ map (place_settled t (s.control.stamp + 1) (λ k. has_draft order t k (summary s).versions)) s.places) × (shelf ≡ s.shelf)
   Moves s (aborts t) places shelf = (places ≡ map (place_aborted t) s.places) × (shelf ≡ s.shelf)
-  Moves s (ages limit) places shelf = (places ≡ map (place_aged (λ f. ltb f limit) s.control.reports) s.places) × (shelf ≡ s.shelf)
+  Moves s (ages limit) places shelf = (places ≡ map (place_aged (λ f. nat_lt f limit) s.control.reports) s.places) × (shelf ≡ s.shelf)
 
   -- a granted call
   pub record Granted (s : State K R) (e : Exchange K R) (s' : State K R) : Type 0 where

@@ -1,5 +1,5 @@
 // Finding, adding and taking out by ticket.
-ghost use Rattle.std.specs.Prelude.{◌≡◌, [], ◌∷◌, ◌++◌, length, IfOk, if◌then◌else◌, nat_eq, nat_le, nat_lt};
+ghost use Rattle.std.specs.Prelude.{◌≡◌, ◌==◌, [], ◌∷◌, ◌++◌, length, IfOk, if◌then◌else◌, nat_le, nat_lt};
 ghost use Rattle.table.specs.Lists.{position, replaced, with_ticket, without_ticket};
 
 use crate::open_list::OpenList;
@@ -8,7 +8,7 @@ use std::alloc::{AllocError, Global};
 
 // The first position of the ticket.
 fn position<T: Ticketed>(items: &[T], ticket: u32) -> Option<usize>
-    ensures answer { result ≡ position (λ x. nat_eq (T.Ticketed.number x) ticket) items.now }
+    ensures answer { result ≡ position (λ x. T.Ticketed.number x == ticket) items.now }
 {
     for (i, item) in items.iter().enumerate() {
         if item.ticket() == ticket {
