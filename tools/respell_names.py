@@ -3,10 +3,10 @@
 
 usage: tools/respell_names.py [FOLDER]      (the top of the repository, this folder's parent if none is named)
 
-It reads what specs/ and proofs/ declare, and turns each such name that holds a dash wherever it stands in an .antt file or
-in a clause of an .rt file: `open-job` becomes `open_job`, `Draft-of` becomes `DraftOf`. A prime becomes an apostrophe.
-What the checker makes of the source, as a goal's name or a step behind `c.`, stays. Comments are turned where they
-quote such a name. It stops, and writes nothing, if two names would fall together. A second run writes nothing more.
+It reads what specs/ and proofs/ declare, and turns each such name that holds a dash wherever it stands in an .antt or
+an .rt file, in comments too: `open-job` becomes `open_job`, `Draft-of` becomes `DraftOf`. A prime becomes an apostrophe.
+What the checker makes of the source, as a goal's name, stays, and so does a name that a file imports from the library.
+It stops, and writes nothing, if two names would fall together. A second run writes nothing more.
 """
 
 import collections
