@@ -6,7 +6,8 @@ usage: tools/respell_names.py [FOLDER]      (the top of the repository, this fol
 It reads what specs/ and proofs/ declare, and turns each such name that holds a dash wherever it stands in an .antt or
 an .rt file, in comments too: `open-job` becomes `open_job`, `Draft-of` becomes `DraftOf`. A prime becomes an apostrophe.
 What the checker makes of the source, as a goal's name, stays, and so does a name that a file imports from the library.
-It stops, and writes nothing, if two names would fall together. A second run writes nothing more.
+It stops, and writes nothing, if two names would fall together.
+Run it once, right after the kit's port.py: in proofs that were mended since, steps as `w.count-is` are the checker's own.
 """
 
 import collections

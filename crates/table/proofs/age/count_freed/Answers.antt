@@ -9,10 +9,10 @@ loop-place-preserved g c =
     elim c.if-is_freed.branch [
       | then-is_freed w ↦
           count_yes (λ p. is_freed c.args.limit c.args.reports.now p.state) c.args.places.now c.loop-place.place-index c.loop-place.count c.if-is_freed.count c.loop-place.invariant
-          c.place-item.result c.loop-place-test.true c.place-item.is (sym w.if-is_freed.ensures.answer) w.count_is
+          c.place-item.result c.loop-place-test.true c.place-item.is (sym w.if-is_freed.ensures.answer) w.count-is
       | else-is_freed w ↦
           count_no (λ p. is_freed c.args.limit c.args.reports.now p.state) c.args.places.now c.loop-place.place-index c.loop-place.count c.if-is_freed.count c.loop-place.invariant
-          c.place-item.result c.loop-place-test.true c.place-item.is (sym w.if-is_freed.ensures.answer) w.count_is
+          c.place-item.result c.loop-place-test.true c.place-item.is (sym w.if-is_freed.ensures.answer) w.count-is
     ]
 
 pub returns : goal.returns

@@ -9,10 +9,10 @@ loop-place-preserved g c =
     elim c.if-is_looked_at.branch [
       | then-is_looked_at w ↦
           count_yes (λ p. is_looked_at c.args.limit p.state) c.args.places.now c.loop-place.place-index c.loop-place.count c.if-is_looked_at.count c.loop-place.invariant
-          c.place-item.result c.loop-place-test.true c.place-item.is (sym w.if-is_looked_at.ensures.answer) w.count_is
+          c.place-item.result c.loop-place-test.true c.place-item.is (sym w.if-is_looked_at.ensures.answer) w.count-is
       | else-is_looked_at w ↦
           count_no (λ p. is_looked_at c.args.limit p.state) c.args.places.now c.loop-place.place-index c.loop-place.count c.if-is_looked_at.count c.loop-place.invariant
-          c.place-item.result c.loop-place-test.true c.place-item.is (sym w.if-is_looked_at.ensures.answer) w.count_is
+          c.place-item.result c.loop-place-test.true c.place-item.is (sym w.if-is_looked_at.ensures.answer) w.count-is
     ]
 
 pub returns : goal.returns

@@ -22,7 +22,7 @@ returns-in-None-of g c =
 pub loop-turn-preserved : goal.loop-turn-preserved
 loop-turn-preserved g c =
     find_turns g.K.Key.order g.met.K.Key.total c.args.nodes.now c.args.root c.loop-turn.at c.loop-turn._turn c.args.key c.loop-turn.invariant
-    c.in-Some.found c.in-Some.ensures.answer c.compare.result c.compare.ensures.answer c.in-Some-of.side c.child_at.result c.in-Some-of.ensures.answer c.loop-turn-test.true c.child_at.ensures.answer
+    c.in-Some.found c.in-Some.ensures.answer c.compare.result c.compare.ensures.answer c.in-Some-of.side c.child-at.result c.in-Some-of.ensures.answer c.loop-turn-test.true c.child-at.ensures.answer
 
 pub returns : goal.returns
 returns g c =

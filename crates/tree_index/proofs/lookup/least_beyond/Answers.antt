@@ -16,10 +16,10 @@ loop-turn-preserved g c =
     elim c.if-is_beyond.branch [
       | then-is_beyond w ↦
           least_left g.K.Key.order g.met.K.Key.total c.args.nodes.now c.args.root c.loop-turn.at c.loop-turn._turn c.args.given c.loop-turn.best c.loop-turn.invariant c.in-Some.found c.in-Some.ensures.answer
-          c.if-is_beyond.at c.if-is_beyond.best c.loop-turn-test.true (w.if-is_beyond.ensures.answer.0 refl) w.at_is w.best_is
+          c.if-is_beyond.at c.if-is_beyond.best c.loop-turn-test.true (w.if-is_beyond.ensures.answer.0 refl) w.at-is w.best-is
       | else-is_beyond w ↦
           least_right g.K.Key.order g.met.K.Key.total c.args.nodes.now c.args.root c.loop-turn.at c.loop-turn._turn c.args.given c.loop-turn.best c.loop-turn.invariant c.in-Some.found c.in-Some.ensures.answer
-          c.if-is_beyond.at c.if-is_beyond.best c.loop-turn-test.true (λ b. both_ways c.is_beyond.result w.if-is_beyond.false (c.is_beyond.ensures.answer.1 b)) w.at_is w.best_is
+          c.if-is_beyond.at c.if-is_beyond.best c.loop-turn-test.true (λ b. both_ways c.is_beyond.result w.if-is_beyond.false (c.is_beyond.ensures.answer.1 b)) w.at-is w.best-is
     ]
 
 pub returns : goal.returns
