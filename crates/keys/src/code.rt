@@ -6,7 +6,7 @@ ghost use Rattle.std.proofs.Common.{rules};
 use crate::key::Key;
 use std::cmp::Ordering;
 
-#[derive(Clone, Copy)]
+#[derive(Clone, Copy, PartialEq, Eq, PartialOrd, Ord, Debug)]
 pub struct CodeKey {
     // address of the control unit
     pub unit: u16,
@@ -20,10 +20,6 @@ impl Key for CodeKey {
     ghost total = { Prim.search rules };
 
     fn compare(self, other: CodeKey) -> Ordering {
-        match self.unit.cmp(&other.unit) {
-            Ordering::Less => Ordering::Less,
-            Ordering::Equal => self.code.cmp(&other.code),
-            Ordering::Greater => Ordering::Greater,
-        }
+        self.cmp(&other)
     }
 }

@@ -4,10 +4,12 @@
 
 mod code;
 mod key;
+mod reason;
 mod spelling;
 mod vehicle;
 mod vehicle_order;
 
 pub use code::CodeKey;
 pub use key::Key;
+pub use reason::Reason;
 pub use vehicle::VehicleKey;

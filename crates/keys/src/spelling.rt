@@ -16,6 +16,7 @@ const SECOND_CHARACTERS: u32 = 8;
 
 impl VehicleKey {
     // The key with these two numbers; none where no text gives them.
+    // A function by name and no TryFrom of a pair, whose type would not say which number is which.
     pub fn from_numbers(first: u64, second: u64) -> Option<VehicleKey>
         ensures answer { option_map numbers result ≡ (if spelled first second then Some (first, second) else None) }
     {

@@ -3,7 +3,7 @@
 ghost use Rattle.keys.specs.VehicleDigits.{spelled};
 ghost use Rattle.std.specs.Prelude.{◌≡◌, true};
 
-#[derive(Clone, Copy)]
+#[derive(Clone, Copy, PartialEq, Eq, PartialOrd, Ord, Debug)]
 pub struct VehicleKey {
     // the first nine characters
     pub first: u64,

@@ -13,10 +13,6 @@ impl Key for VehicleKey {
     ghost total = { vehicles_ordered };
 
     fn compare(self, other: VehicleKey) -> Ordering {
-        match self.first.cmp(&other.first) {
-            Ordering::Less => Ordering::Less,
-            Ordering::Equal => self.second.cmp(&other.second),
-            Ordering::Greater => Ordering::Greater,
-        }
+        self.cmp(&other)
     }
 }
