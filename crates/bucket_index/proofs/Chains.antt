@@ -3,7 +3,7 @@
 -- A cell goes out of a chain when the link to it is led past it: the chain then has every step but that one.
 -- A chain whose numbers are apart and have keys has at most as many steps as there are keys: clear the slot of its first
 -- number, and the rest is a chain over one key less.
-use Rattle.std.proofs.Common.{◌≡◌, ℕ, zero, suc, ◌+◌, ◌<◌, ◌≤◌, Bool, true, false, cond, ltb, List, length, set, Some, None, Option, sym, refl, ap, ◌∙◌, subst, ⊎_elim, add-one, arith}
+use Rattle.std.proofs.Common.{◌≡◌, ℕ, zero, suc, ◌+◌, ◌-◌, ◌<◌, ◌≤◌, Bool, true, false, cond, ltb, List, set, Some, None, Option, sym, refl, ap, ◌∙◌, subst, ⊎_elim, add-one, arith}
 use Rattle.std.proofs.lemmas.Bool.Decides.{nat_tests}
 use Rattle.index.specs.Slots.{Maps, count_of}
 use Rattle.index.proofs.Nth.{nth_set_other}
@@ -30,15 +30,12 @@ ended cells link i (suc j) e h =
 -- The walk of seek.
 
 -- it has come to this link after so many steps, past cells that are not wanted
-pub record Passed (wanted : Cell → Bool) (cells : List Cell) (link : Option ℕ) (at : Option ℕ) (i : ℕ) : Type 0 where
+pub record Passed (Answers : Cell → Bool → Type 0) (cells : List Cell) (link : Option ℕ) (at : Option ℕ) (i : ℕ) : Type 0 where
   pub here : at ≡ along cells link i
-  pub before : NoneWithin wanted cells link i
+  pub before : NoneWithin Answers cells link i
 
-module _ (wanted : Cell → Bool) (cells : List Cell) (link : Option ℕ) where
-  pub passed_none : Passed wanted cells link link 0
-  passed_none = record { here = refl; before = λ j cell h. absurd (omega arith) }
-
-  pub passed_more : (at : Option ℕ) (i : ℕ) (cell : Cell) → Passed wanted cells link at i → Some cell ≡ cell_at cells at → false ≡ wanted cell → Passed wanted cells link cell.next (i + 1)
+module _ (Answers : Cell → Bool → Type 0) (cells : List Cell) (link : Option ℕ) where
+  pub passed_more : (at : Option ℕ) (i : ℕ) (cell : Cell) → Passed Answers cells link at i → Some cell ≡ cell_at cells at → Answers cell false → Passed Answers cells link cell.next (i + 1)
   passed_more at i cell p e f =
       rw add-one
       (record {
@@ -49,25 +46,29 @@ module _ (wanted : Cell → Bool) (cells : List Cell) (link : Option ℕ) where
             (λ (l : i ≤ j).
             let k : i ≡ j = omega arith in
             let same : Some cell ≡ Some other = e ∙ ap (cell_at cells) p.here ∙ ap (λ n. cell_at cells (along cells link n)) k ∙ q in
-            let one : cell ≡ other = cc in subst (λ x. wanted x ≡ false) one (sym f))
+            let one : cell ≡ other = cc in subst (λ x. Answers x false) one f)
             (cases_lt j i);
       })
 
-  pub passed_end : (at : Option ℕ) (i : ℕ) (r : Option ℕ) → Passed wanted cells link at i → None ≡ cell_at cells at → r ≡ None → Sought wanted cells link r
-  passed_end at i (Some n) p e z = let o : ◌≡◌ {A = ℕ} 0 1 = cc in absurd (omega arith)
-  passed_end at i None p e z = λ j cell h q.
-      ⊎_elim
-      (λ l. p.before j cell l q)
-      (λ l. let none' : cell_at cells (along cells link j) ≡ None = ended cells link i j (sym (e ∙ ap (cell_at cells) p.here)) l in
-      let o : ◌≡◌ {A = ℕ} 0 1 = cc in absurd (omega arith))
-      (cases_lt j i)
+  pub passed_end : (at : Option ℕ) (i : ℕ) (r : Option ℕ) → Passed Answers cells link at i → None ≡ cell_at cells at → r ≡ None → Sought Answers cells link r
+  passed_end at i r p e z =
+      record {
+        none = λ _ j cell h q.
+            ⊎_elim
+            (λ l. p.before j cell l q)
+            (λ l. let none' : cell_at cells (along cells link j) ≡ None = ended cells link i j (sym (e ∙ ap (cell_at cells) p.here)) l in
+            cc)
+            (cases_lt j i);
+        some = λ n q. cc;
+      }
 
-  pub passed_all : (at : Option ℕ) (i : ℕ) → Passed wanted cells link at i → length cells ≤ i → Sought wanted cells link None
-  passed_all at i p h j cell l q = p.before j cell (omega arith) q
-
-  pub passed_found : (at : Option ℕ) (i : ℕ) (cell : Cell) → Passed wanted cells link at i → Some cell ≡ cell_at cells at → true ≡ wanted cell → Sought wanted cells link at
-  passed_found None i cell p e t = let z : ◌≡◌ {A = ℕ} 0 1 = cc in absurd (omega arith)
-  passed_found (Some n) i cell p e t = (i, cell, sym p.here, sym e, sym t, p.before)
+  pub passed_found : (at : Option ℕ) (i : ℕ) (cell : Cell) → Passed Answers cells link at i → Some cell ≡ cell_at cells at → Answers cell true → Sought Answers cells link at
+  passed_found None i cell p e t = cc
+  passed_found (Some n) i cell p e t =
+      record {
+        none = λ q. cc;
+        some = λ m q. (i, cell, sym p.here ∙ q, ap (cell_at cells) (sym q) ∙ sym e, t, p.before);
+      }
 
 -- Chains where cells change.
 
@@ -109,9 +110,7 @@ pub skip_apart : (gone i j : ℕ) → skip gone i ≡ skip gone j → i ≡ j
 skip_apart gone i j e = grind (arith, nat_tests)
 
 pub skip_other : (gone i : ℕ) → (i ≡ gone → ⊥) → (j : ℕ) × (skip gone j ≡ i)
-skip_other gone zero ne = (zero, skip_below gone zero (omega arith))
-skip_other gone (suc i) ne =
-    ⊎_elim (λ (h : suc i < gone). (suc i, skip_below gone (suc i) h)) (λ (h : gone ≤ suc i). (i, skip_past gone i (omega arith))) (cases_lt (suc i) gone)
+skip_other gone i ne = (cond (ltb i gone) i (i - 1), grind (arith, nat_tests))
 
 -- a chain that starts and goes on as another does without one of its steps
 pub along_skipping : (before after : List Cell) (link start : Option ℕ) (gone : ℕ) → start ≡ along before link (skip gone zero) →
@@ -129,11 +128,9 @@ nowhere cells (suc i) = ap (λ at. link_of (cell_at cells at)) (nowhere cells i)
 pub along_few : {K : Type 0} (cells : List Cell) (i n : ℕ) (link : Option ℕ) (slots : List (Option K)) →
     ((j m : ℕ) → along cells link j ≡ Some m → (key : K) × Maps slots m key) →
     ((j k m : ℕ) → along cells link j ≡ Some m → along cells link k ≡ Some m → j ≡ k) → along cells link i ≡ Some n → i < count_of slots
-along_few cells i n None slots keyed once e = let none' : along cells None i ≡ None = nowhere cells i in let z : ◌≡◌ {A = ℕ} 0 1 = cc in absurd (omega arith)
-along_few cells zero n (Some first) slots keyed once e =
-    let fewer : suc (count_of (set slots first None)) ≡ count_of slots = count_fewer slots first (keyed zero first refl).0 (keyed zero first refl).1 in omega arith
+along_few cells i n None slots keyed once e = let none' : along cells None i ≡ None = nowhere cells i in cc
+along_few cells zero n (Some first) slots keyed once e = omega (arith, count_fewer slots first (keyed zero first refl).0 (keyed zero first refl).1)
 along_few cells (suc i) n (Some first) slots keyed once e =
-    let fewer : suc (count_of (set slots first None)) ≡ count_of slots = count_fewer slots first (keyed zero first refl).0 (keyed zero first refl).1 in
     let rest : Option ℕ = link_of (slice_get cells first) in
     let less : i < count_of (set slots first None) =
     along_few cells i n rest (set slots first None)
@@ -141,4 +138,4 @@ along_few cells (suc i) n (Some first) slots keyed once e =
     (there.0, nth_set_other slots first m None (λ same. let z : suc j ≡ zero = once (suc j) zero first (along_front cells (Some first) j ∙ q ∙ ap Some same) refl in omega arith) ∙ there.1))
     (λ j k m p q. let z : suc j ≡ suc k = once (suc j) (suc k) m (along_front cells (Some first) j ∙ p) (along_front cells (Some first) k ∙ q) in omega arith)
     (sym (along_front cells (Some first) i) ∙ e) in
-    omega arith
+    omega (arith, count_fewer slots first (keyed zero first refl).0 (keyed zero first refl).1)

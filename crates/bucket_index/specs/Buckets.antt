@@ -1,12 +1,10 @@
--- The buckets: which one a key belongs to, how their chains hold the keys, and what a sound index is.
--- The slots of an index are the keys of its cells; all else about its memory is its own affair.
+-- The buckets: which one a key belongs to, how their chains hold the keys, and what a sound memory is.
 use Rattle.std.specs.Prelude.{◌≡◌, ℕ, ◌+◌, ◌%◌, List, Some, Option}
 use Rattle.index.specs.Slots.{Apart, Maps, count_of}
 use Rattle.keys.specs.declared.code.CodeKey.{CodeKey}
 use Rattle.std.specs.List.{slice_get}
 use Rattle.bucket_index.specs.Chains.{along, keys_in}
 use Rattle.bucket_index.specs.Limits.{buckets}
-use Rattle.bucket_index.specs.declared.bucket.BucketIndex.{BucketIndex}
 use Rattle.bucket_index.specs.declared.chain.Cell.{Cell}
 
 -- the bucket of a key
@@ -23,12 +21,8 @@ pub record Holds (cells : List Cell) (bucket : ℕ) (link : Option ℕ) : Type 0
 abbrev pub Chained : List (Option ℕ) → List Cell → Type 0
 Chained heads cells = (bucket : ℕ) (link : Option ℕ) → slice_get heads bucket ≡ Some link → Holds cells bucket link
 
--- the slots of the index
-abbrev pub keys_of : BucketIndex → List (Option CodeKey)
-keys_of index = keys_in index.cells
-
--- what a new index is and every call keeps: each bucket's chain holds its keys, no key has two numbers, and the count is right
-pub record Sound (index : BucketIndex) : Type 0 where
-  pub chains : Chained index.heads index.cells
-  pub apart : Apart (keys_of index)
-  pub counted : index.count ≡ count_of (keys_of index)
+-- what a new memory is and every call keeps: each bucket's chain holds its keys, no key has two numbers, and the count is right
+pub record Sound (heads : List (Option ℕ)) (cells : List Cell) (count : ℕ) : Type 0 where
+  pub chains : Chained heads cells
+  pub apart : Apart (keys_in cells)
+  pub counted : count ≡ count_of (keys_in cells)

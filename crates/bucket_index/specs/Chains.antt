@@ -1,8 +1,8 @@
 -- Chains of cells: where a link leads, step by step, and what is found along the way.
 -- Everything here is said of any cells and any link, sound or not: a link to no cell ends its chain.
-use Rattle.std.specs.Prelude.{◌≡◌, ℕ, zero, suc, ◌<◌, Bool, true, false, List, map, length, Some, None, Option, ◌==◌, slice_index_or, slice_set}
+use Rattle.std.specs.Prelude.{◌≡◌, ℕ, zero, suc, ◌<◌, Bool, true, false, List, map, length, Some, None, Option, slice_index_or, slice_set}
 use Rattle.std.specs.declared.cmp.Ordering.{Ordering}
-use Rattle.keys.specs.Orders.{by_parts, ranked}
+use Rattle.keys.specs.Orders.{by_parts}
 use Rattle.keys.specs.declared.code.CodeKey.{CodeKey}
 use Rattle.std.specs.List.{slice_get}
 use Rattle.bucket_index.specs.declared.chain.Cell.{Cell}
@@ -26,37 +26,18 @@ abbrev pub along : List Cell → Option ℕ → ℕ → Option ℕ
 along cells link zero = link
 along cells link (suc i) = link_of (cell_at cells (along cells link i))
 
--- no cell that the link leads to within so many steps is wanted
-abbrev pub NoneWithin : (Cell → Bool) → List Cell → Option ℕ → ℕ → Type 0
-NoneWithin wanted cells link steps = (i : ℕ) (cell : Cell) → i < steps → cell_at cells (along cells link i) ≡ Some cell → wanted cell ≡ false
+-- no cell that the link leads to within so many steps is wanted, as its test may answer
+abbrev pub NoneWithin : (Cell → Bool → Type 0) → List Cell → Option ℕ → ℕ → Type 0
+NoneWithin Answers cells link steps = (i : ℕ) (cell : Cell) → i < steps → cell_at cells (along cells link i) ≡ Some cell → Answers cell false
 
 -- the number of the first cell along the chain that is wanted; or none, where no cell is within as many steps as there are cells
-abbrev pub Sought : (Cell → Bool) → List Cell → Option ℕ → Option ℕ → Type 0
-Sought wanted cells link None = NoneWithin wanted cells link (length cells)
-Sought wanted cells link (Some n) =
-    (i : ℕ) × (cell : Cell) × (along cells link i ≡ Some n) × (slice_get cells n ≡ Some cell) × (wanted cell ≡ true) × NoneWithin wanted cells link i
+pub record Sought (Answers : Cell → Bool → Type 0) (cells : List Cell) (link result : Option ℕ) : Type 0 where
+  pub none : result ≡ None → NoneWithin Answers cells link (length cells)
+  pub some : (n : ℕ) → result ≡ Some n → (i : ℕ) × (cell : Cell) × (along cells link i ≡ Some n) × (slice_get cells n ≡ Some cell) × Answers cell true × NoneWithin Answers cells link i
 
 -- the order of code keys
 abbrev pub code_order : CodeKey → CodeKey → Ordering
 code_order a b = by_parts a.unit a.code b.unit b.code
-
--- whether the key is there and equals the given one
-abbrev pub is_key : CodeKey → Option CodeKey → Bool
-is_key key None = false
-is_key key (Some k) = ranked (code_order key k) false true false
-
--- whether the cell has the key
-abbrev pub has_key : CodeKey → Cell → Bool
-has_key key cell = is_key key cell.key
-
--- whether the number is there and equals the given one
-abbrev pub is_number : ℕ → Option ℕ → Bool
-is_number n None = false
-is_number n (Some m) = m == n
-
--- whether the cell leads to the number
-abbrev pub leads_to : ℕ → Cell → Bool
-leads_to n cell = is_number n cell.next
 
 -- a cell of a number that no key has
 abbrev pub free_cell : Cell

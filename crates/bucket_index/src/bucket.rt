@@ -1,27 +1,77 @@
-// The memory of the bucket index: the cell of number n lies at place n, and each bucket has a chain of the cells whose keys belong to it.
-// The calls are in the module below, since their contracts speak of the whole index.
-ghost use Rattle.bucket_index.specs.Chains.{keys_in};
-ghost use Rattle.bucket_index.specs.Limits.{buckets, capacity};
-ghost use Rattle.std.specs.Prelude.{◌≡◌, length};
+// The bucket index and its calls. Find, add and discard visit the cells of one bucket only.
+// That its memory is sound is an invariant of its type: what a new index has, and every call keeps.
+ghost use Rattle.bucket_index.specs.Buckets.{Sound};
 
-mod calls;
-
-use crate::chain::{Cell, Link};
-
-// How many numbers there are.
-pub const CAPACITY: usize = 512;
-
-// How many buckets there are.
-pub const BUCKETS: usize = 64;
+use crate::memory::{CAPACITY, Memory};
+use index::{AddRefusal, DiscardRefusal, Index};
+use keys::CodeKey;
 
 #[derive(Drop)]
 pub struct BucketIndex {
-    // for each bucket the first cell of its chain
-    heads: [Link; BUCKETS],
-    // for each number its cell
-    cells: [Cell; CAPACITY],
-    // how many cells have a key
-    count: usize,
-    // contracts read an array as a list, so how long each is has to be said
-    ghost sizes: { (length heads ≡ buckets) × (length (keys_in cells) ≡ capacity) },
+    memory: Memory,
+    // each bucket's chain holds its keys, no key has two numbers, and the count is right
+    ghost sound: { ∥ Sound memory.heads memory.cells memory.count ∥₁ },
+}
+
+impl BucketIndex {
+    ghost use Rattle.bucket_index.specs.Limits.{capacity};
+    ghost use Rattle.bucket_index.specs.Slots.{keys_of};
+    ghost use Rattle.index.specs.Slots.{empty};
+    ghost use Rattle.std.specs.Prelude.{◌≡◌};
+
+    // An index without a key.
+    pub fn new() -> BucketIndex
+        ensures answer { keys_of result ≡ empty capacity }
+    {
+        BucketIndex {
+            memory: Memory::blank(),
+        }
+    }
+}
+
+impl Index for BucketIndex {
+    ghost use Rattle.bucket_index.specs.Slots.{keys_of};
+
+    type Key = CodeKey;
+
+    ghost slots = { keys_of };
+
+    fn emptied(self) -> BucketIndex {
+        BucketIndex::new()
+    }
+
+    fn capacity(&self) -> usize {
+        CAPACITY
+    }
+
+    fn count(&self) -> usize {
+        self.memory.count()
+    }
+
+    fn find(&self, key: CodeKey) -> Option<usize> {
+        self.memory
+            .seek(key, |cell| cell.has_key(key))
+            .map(usize::from)
+    }
+
+    fn add(&mut self, key: CodeKey, number: usize) -> Result<(), AddRefusal> {
+        let cell = self.memory.cell(number).ok_or(AddRefusal::NumberTooHigh)?;
+        if cell.key.is_some() {
+            return Err(AddRefusal::NumberInUse);
+        }
+        if self.find(key).is_some() {
+            return Err(AddRefusal::KeyThere);
+        }
+        self.memory.link(key, number);
+        Ok(())
+    }
+
+    fn discard(&mut self, number: usize) -> Result<(), DiscardRefusal> {
+        let cell = self.memory.cell(number).ok_or(DiscardRefusal::NumberFree)?;
+        let key = cell.key.ok_or(DiscardRefusal::NumberFree)?;
+        let previous = self.memory.seek(key, |cell| cell.leads_to(number));
+        self.memory.unlink(key, previous, cell.next);
+        self.memory.free(number);
+        Ok(())
+    }
 }

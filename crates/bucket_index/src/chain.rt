@@ -1,11 +1,9 @@
 // Chains of cells: a cell for each number, and links that lead from cell to cell by number.
 // Safe and ending on any cells: a link to no cell ends a chain, and so do as many steps as there are cells.
-ghost use Rattle.bucket_index.specs.Chains.{Sought, cell_at, has_key, leads_to};
-ghost use Rattle.bucket_index.specs.declared.chain.Cell.{Cell};
-ghost use Rattle.std.specs.Prelude.{◌≡◌, Bool};
+ghost use Rattle.bucket_index.specs.Chains.{Sought, cell_at};
+ghost use Rattle.std.specs.Prelude.{◌≡◌, ◌↔◌, IsTrue};
 
-use keys::{CodeKey, Key};
-use std::cmp::Ordering;
+use keys::CodeKey;
 
 // The number of the next cell, or none at the end.
 pub type Link = Option<u16>;
@@ -17,71 +15,45 @@ pub struct Cell {
     pub next: Link,
 }
 
+impl Cell {
+    // Whether the key has the number of this cell.
+    pub fn has_key(self, key: CodeKey) -> bool
+        ensures answer { IsTrue result ↔ self.key ≡ Some key }
+    {
+        self.key == Some(key)
+    }
+
+    // Whether this cell leads to the one of the number.
+    pub fn leads_to(self, number: usize) -> bool
+        ensures answer { IsTrue result ↔ self.next ≡ Some number }
+    {
+        self.next.map(usize::from) == Some(number)
+    }
+}
+
 // A cell of a number that no key has.
 pub const FREE: Cell = Cell {
     key: None,
     next: None,
 };
 
-// What is looked for along a chain.
-pub trait Wanted: Copy {
-    // whether the cell is such a one
-    ghost verdict: { Self → Cell → Bool };
-
-    fn picks(self, cell: Cell) -> bool
-        ensures answer { result ≡ verdict self cell };
-}
-
-// A cell that has this key.
-#[derive(Clone, Copy)]
-pub struct HasKey(pub CodeKey);
-
-impl Wanted for HasKey {
-    ghost verdict = { λ w. has_key w.0 };
-
-    fn picks(self, cell: Cell) -> bool {
-        match cell.key {
-            None => false,
-            Some(key) => matches!(self.0.compare(key), Ordering::Equal),
-        }
-    }
-}
-
-// A cell that leads to this number.
-#[derive(Clone, Copy)]
-pub struct LeadsTo(pub u16);
-
-impl Wanted for LeadsTo {
-    ghost verdict = { λ w. leads_to w.0 };
-
-    fn picks(self, cell: Cell) -> bool {
-        match cell.next {
-            None => false,
-            Some(next) => next == self.0,
-        }
-    }
-}
-
 // The cell that the link leads to, or none.
 fn cell_at(cells: &[Cell], link: Link) -> Option<Cell>
     ensures answer { result ≡ cell_at cells.now link }
 {
-    let number = link? as usize;
-    if number < cells.len() {
-        Some(cells[number])
-    } else {
-        None
-    }
+    cells.get(usize::from(link?)).copied()
 }
 
-// The number of the first wanted cell along the chain from the link, or none.
-pub fn seek<W: Wanted>(cells: &[Cell], link: Link, wanted: W) -> Link
-    ensures answer { Sought (W.Wanted.verdict wanted) cells.now link result }
+// The number of the first cell along the chain from the link that is wanted, or none.
+pub fn seek<F: Fn(Cell) -> bool>(cells: &[Cell], link: Link, wanted: F) -> Link
+    requires { F.IsAlwaysCallable wanted }
+    ensures answer { Sought (F.post wanted) cells.now link result }
 {
     let mut at = link;
+    // a loop, and no chain of iterators: that would look up each cell twice, once for the test and once for its link
     for _step in 0..cells.len() {
         let cell = cell_at(cells, at)?;
-        if wanted.picks(cell) {
+        if wanted(cell) {
             return at;
         }
         at = cell.next;

@@ -4,5 +4,7 @@
 
 mod bucket;
 mod chain;
+mod memory;
 
-pub use bucket::{BUCKETS, BucketIndex, CAPACITY};
+pub use bucket::BucketIndex;
+pub use memory::{BUCKETS, CAPACITY};

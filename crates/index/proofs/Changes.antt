@@ -7,7 +7,8 @@ use Rattle.keys.specs.Refusals.{Code}
 use Rattle.std.specs.List.{slice_get}
 use Rattle.std.proofs.lemmas.List.{length-set}
 use Rattle.index.specs.Slots.{Apart, Maps, add_answer, added, count_of, discard_answer, discarded, if_granted, number_of}
-use Rattle.index.proofs.Nth.{nth_set_other, nth_set_same, nth_within}
+use Rattle.std.proofs.lemmas.Option.{slice_get_within}
+use Rattle.index.proofs.Nth.{nth_set_other, nth_set_same}
 use Rattle.index.proofs.Slots.{add_granted, add_keeps_apart, add_told, count_fewer, count_more, discard_granted, discard_keeps_apart, maps_cleared, maps_set, number_hit, number_maps, number_miss, number_new}
 
 -- what holds of the slots and of the changed slots holds at exit
@@ -26,7 +27,7 @@ length_discarded slots n = at_exit (λ s. length s ≡ length slots) (discard_an
 pub maps_added : {K : Type 0} (order : K → K → Ordering) (slots : List (Option K)) (key : K) (n : ℕ) → Ok tt ≡ add_answer order slots key n → Maps (added order slots key n) n key
 maps_added {K} order slots key n grant =
     let free = add_told order slots key n grant in
-    subst (λ (s : List (Option K)). Maps s n key) (add_granted order slots key n free.0 free.1).1 (nth_set_same slots n (Some key) (nth_within slots n None free.0))
+    subst (λ (s : List (Option K)). Maps s n key) (add_granted order slots key n free.0 free.1).1 (nth_set_same slots n (Some key) (slice_get_within slots n None free.0))
 
 pub count_added : {K : Type 0} (order : K → K → Ordering) (slots : List (Option K)) (key : K) (n : ℕ) → Ok tt ≡ add_answer order slots key n → count_of (added order slots key n) ≡ suc (count_of slots)
 count_added order slots key n grant =

@@ -16,8 +16,8 @@ module _ {K : Type 0} (order : K → K → Ordering) (total : Total order) where
       go : (o : Ordering) → ((o ≡ Less) × (◌≡◌ {A = Option (K × ℕ)} (ranked {X = Option (K × ℕ)} o (Some (key, zero)) None None) (Some (key, zero)))) ⊎
           ((o ≡ Less → ⊥) × (◌≡◌ {A = Option (K × ℕ)} (ranked {X = Option (K × ℕ)} o (Some (key, zero)) None None) None))
       go Less = inl (refl, refl)
-      go Equal = inr ((λ e. let z : ◌≡◌ {A = ℕ} 0 1 = cc in omega arith), refl)
-      go Greater = inr ((λ e. let z : ◌≡◌ {A = ℕ} 0 1 = cc in omega arith), refl)
+      go Equal = inr ((λ e. cc), refl)
+      go Greater = inr ((λ e. cc), refl)
 
   -- a first slot whose key, if it has one, is not beyond the given one
   least_behind : (given : Option K) (slot : Option K) (slots : List (Option K)) (r : Option (K × ℕ)) → ((key : K) → slot ≡ Some key → Beyond order given key → ⊥) →
@@ -56,8 +56,8 @@ module _ {K : Type 0} (order : K → K → Ordering) (total : Total order) where
       above f (suc n) key e p l = h.2 n key e p (f key l)
 
   pub least_is_least : (given : Option K) (slots : List (Option K)) → LeastBeyond order given slots (least order given slots)
-  least_is_least given [] = λ n key e p. let z : ◌≡◌ {A = ℕ} 0 1 = cc in omega arith
-  least_is_least given (None ∷ slots) = least_behind given None slots (least order given slots) (λ key e. let z : ◌≡◌ {A = ℕ} 0 1 = cc in absurd (omega arith)) (least_is_least given slots)
+  least_is_least given [] = λ n key e p. cc
+  least_is_least given (None ∷ slots) = least_behind given None slots (least order given slots) (λ key e. cc) (least_is_least given slots)
   least_is_least given (Some x ∷ slots) = ⊎_elim
       (λ (q : Beyond order given x × (if_beyond order given x ≡ Some (x, zero))). subst Goal (sym q.1) (least_first given x slots (least order given slots) q.0 (least_is_least given slots)))
       (λ (q : (Beyond order given x → ⊥) × (if_beyond order given x ≡ None)).

@@ -4,7 +4,7 @@ use Rattle.keys.specs.Orders.{Total}
 
 module _ {K : Type 0} (order : K → K → Ordering) (total : Total order) where
   pub never_less : (a : K) → order a a ≡ Less → ⊥
-  never_less a h = let e : order a a ≡ Equal = total.itself a in let z : ◌≡◌ {A = ℕ} 0 1 = cc in omega arith
+  never_less a h = let e : order a a ≡ Equal = total.itself a in cc
 
   pub less_apart : (a b : K) → order a b ≡ Less → a ≡ b → ⊥
   less_apart a b h e = never_less a (subst (λ (c : K). order a c ≡ Less) (sym e) h)

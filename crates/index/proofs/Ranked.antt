@@ -10,4 +10,4 @@ ranked_by P Greater a b c f g h = h refl
 -- where less and greater come to the same
 pub equal_or_not : {X : Type 0} (P : X → Type 0) (o : Ordering) (a b : X) → (o ≡ Equal → P a) → ((o ≡ Equal → ⊥) → P b) → P (ranked o b a b)
 equal_or_not P o a b f g =
-    ranked_by P o b a b (λ e. g (λ q. let z : ◌≡◌ {A = ℕ} 0 1 = cc in omega arith)) f (λ e. g (λ q. let z : ◌≡◌ {A = ℕ} 0 1 = cc in omega arith))
+    ranked_by P o b a b (λ e. g (λ q. cc)) f (λ e. g (λ q. cc))

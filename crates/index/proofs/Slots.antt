@@ -9,7 +9,8 @@ use Rattle.keys.specs.Refusals.{Code}
 use Rattle.std.specs.List.{slice_get}
 use Rattle.std.proofs.lemmas.Bool.{cases_eq}
 use Rattle.index.specs.Slots.{Maps, Apart, empty, behind_first, number_of, count_of, add_by, add_answer, discard_by, discard_answer, if_granted, added, discarded}
-use Rattle.index.proofs.Nth.{nth_within, nth_set_same, nth_set_other}
+use Rattle.std.proofs.lemmas.Option.{slice_get_within}
+use Rattle.index.proofs.Nth.{nth_set_same, nth_set_other}
 use Rattle.index.proofs.Ranked.{equal_or_not}
 
 -- no number has the key
@@ -28,15 +29,15 @@ count_empty K zero = refl
 count_empty K (suc n) = count_empty K n
 
 pub count_more : {K : Type 0} (slots : List (Option K)) (n : ℕ) (key : K) → slice_get slots n ≡ Some None → count_of (set slots n (Some key)) ≡ suc (count_of slots)
-count_more [] n key e = let z : ◌≡◌ {A = ℕ} 0 1 = cc in omega arith
+count_more [] n key e = cc
 count_more (None ∷ slots) zero key e = refl
-count_more (Some k ∷ slots) zero key e = let z : ◌≡◌ {A = ℕ} 0 1 = cc in omega arith
+count_more (Some k ∷ slots) zero key e = cc
 count_more (None ∷ slots) (suc n) key e = count_more slots n key e
 count_more (Some k ∷ slots) (suc n) key e = ap suc (count_more slots n key e)
 
 pub count_fewer : {K : Type 0} (slots : List (Option K)) (n : ℕ) (key : K) → Maps slots n key → suc (count_of (set slots n None)) ≡ count_of slots
-count_fewer [] n key e = let z : ◌≡◌ {A = ℕ} 0 1 = cc in omega arith
-count_fewer (None ∷ slots) zero key e = let z : ◌≡◌ {A = ℕ} 0 1 = cc in omega arith
+count_fewer [] n key e = cc
+count_fewer (None ∷ slots) zero key e = cc
 count_fewer (Some k ∷ slots) zero key e = refl
 count_fewer (None ∷ slots) (suc n) key e = count_fewer slots n key e
 count_fewer (Some k ∷ slots) (suc n) key e = ap suc (count_fewer slots n key e)
@@ -47,8 +48,8 @@ pub one_key : {K : Type 0} (slots : List (Option K)) (n : ℕ) (a b : K) → Map
 one_key slots n a b p q = cc
 
 pub empty_new : {K : Type 0} (capacity : ℕ) (key : K) → New (empty capacity) key
-empty_new zero key n e = let z : ◌≡◌ {A = ℕ} 0 1 = cc in omega arith
-empty_new (suc c) key zero e = let z : ◌≡◌ {A = ℕ} 0 1 = cc in omega arith
+empty_new zero key n e = cc
+empty_new (suc c) key zero e = cc
 empty_new (suc c) key (suc n) e = empty_new c key n e
 
 pub empty_apart : (K : Type 0) (capacity : ℕ) → Apart (empty {K = K} capacity)
@@ -62,8 +63,8 @@ maps_cleared {K} slots n m key h = (sym (nth_set_other slots n m None other) ∙
     other e = empty_there slots n (subst (λ (j : ℕ). Maps (set slots n None) j key) e h)
       where
         empty_there : (xs : List (Option K)) (i : ℕ) → Maps (set xs i None) i key → ⊥
-        empty_there [] i p = let z : ◌≡◌ {A = ℕ} 0 1 = cc in omega arith
-        empty_there (x ∷ xs) zero p = let z : ◌≡◌ {A = ℕ} 0 1 = cc in omega arith
+        empty_there [] i p = cc
+        empty_there (x ∷ xs) zero p = cc
         empty_there (x ∷ xs) (suc i) p = empty_there xs i p
 
 pub cleared_apart : {K : Type 0} (slots : List (Option K)) (n : ℕ) → Apart slots → Apart (set slots n None)
@@ -75,7 +76,7 @@ pub maps_set : {K : Type 0} (slots : List (Option K)) (n m : ℕ) (a key : K) �
 maps_set {K} slots n m a key free h =
     ⊎_elim
     (λ (e : m ≡ n).
-    let here : slice_get (set slots n (Some a)) n ≡ Some (Some a) = nth_set_same slots n (Some a) (nth_within slots n None free) in
+    let here : slice_get (set slots n (Some a)) n ≡ Some (Some a) = nth_set_same slots n (Some a) (slice_get_within slots n None free) in
     let there : slice_get (set slots n (Some a)) n ≡ Some (Some key) = subst (λ (j : ℕ). Maps (set slots n (Some a)) j key) e h in
     inl (e, cc))
     (λ (ne : m ≡ n → ⊥). inr (ne, sym (nth_set_other slots n m (Some a) ne) ∙ h))
@@ -95,13 +96,13 @@ later_apart slot slots apart m n key p q = let e : suc m ≡ suc n = apart (suc 
 
 behind_maps : {K : Type 0} (slot : Option K) (slots : List (Option K)) (key : K) (n : ℕ) (found : Option ℕ) → ((m : ℕ) → Some m ≡ found → Maps slots m key) →
     Some n ≡ behind_first found → Maps (slot ∷ slots) n key
-behind_maps slot slots key n None f e = let z : ◌≡◌ {A = ℕ} 0 1 = cc in absurd (omega arith)
+behind_maps slot slots key n None f e = cc
 behind_maps slot slots key n (Some m) f e = let next : suc m ≡ n = cc in subst (λ (j : ℕ). Maps (slot ∷ slots) j key) next (f m refl)
 
 module _ {K : Type 0} (order : K → K → Ordering) (total : Total order) where
   pub number_hit : (slots : List (Option K)) (n : ℕ) (key : K) → Apart slots → Maps slots n key → Some n ≡ number_of order slots key
-  number_hit [] n key apart e = let z : ◌≡◌ {A = ℕ} 0 1 = cc in absurd (omega arith)
-  number_hit (None ∷ slots) zero key apart e = let z : ◌≡◌ {A = ℕ} 0 1 = cc in absurd (omega arith)
+  number_hit [] n key apart e = cc
+  number_hit (None ∷ slots) zero key apart e = cc
   number_hit (None ∷ slots) (suc n) key apart e = ap behind_first (number_hit slots n key (later_apart None slots apart) e)
   number_hit (Some k ∷ slots) zero key apart e =
       let same : key ≡ k = cc in
@@ -121,7 +122,7 @@ module _ {K : Type 0} (order : K → K → Ordering) (total : Total order) where
       (λ _. ap behind_first (number_miss slots key (λ n e. new (suc n) e)))
 
   pub number_maps : (slots : List (Option K)) (key : K) (n : ℕ) → Some n ≡ number_of order slots key → Maps slots n key
-  number_maps [] key n e = let z : ◌≡◌ {A = ℕ} 0 1 = cc in absurd (omega arith)
+  number_maps [] key n e = cc
   number_maps (None ∷ slots) key n e = behind_maps None slots key n _ (number_maps slots key) e
   number_maps (Some k ∷ slots) key n e =
       equal_or_not (λ (r : Option ℕ). Some n ≡ r → Maps (Some k ∷ slots) n key) (order key k) _ _
@@ -130,7 +131,7 @@ module _ {K : Type 0} (order : K → K → Ordering) (total : Total order) where
       e
 
   pub number_new : (slots : List (Option K)) (key : K) → Apart slots → None ≡ number_of order slots key → New slots key
-  number_new slots key apart e n h = let hit : Some n ≡ number_of order slots key = number_hit slots n key apart h in let z : ◌≡◌ {A = ℕ} 0 1 = cc in omega arith
+  number_new slots key apart e n h = let hit : Some n ≡ number_of order slots key = number_hit slots n key apart h in cc
 
   -- A granted add and a granted discard, and what the calls keep.
 
@@ -172,7 +173,7 @@ pub add_told : {K : Type 0} (order : K → K → Ordering) (slots : List (Option
 add_told {K} order slots key n = go (slice_get slots n) (number_of order slots key)
   where
     go : (slot : Option (Option K)) (found : Option ℕ) → Ok tt ≡ add_by slot found → (slot ≡ Some None) × (None ≡ found)
-    go None found e = let z : ◌≡◌ {A = ℕ} 0 1 = cc in absurd (omega arith)
-    go (Some (Some k)) found e = let z : ◌≡◌ {A = ℕ} 0 1 = cc in absurd (omega arith)
-    go (Some None) (Some m) e = let z : ◌≡◌ {A = ℕ} 0 1 = cc in absurd (omega arith)
+    go None found e = cc
+    go (Some (Some k)) found e = cc
+    go (Some None) (Some m) e = cc
     go (Some None) None e = (refl, refl)

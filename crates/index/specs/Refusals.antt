@@ -1,9 +1,9 @@
 -- The refusals of an index as they are told: each with its number; none has values.
 use Rattle.keys.specs.Refusals.{Code, plain}
-use Rattle.index.specs.declared.index.AddRefusal.{AddRefusal}
-use Rattle.index.specs.declared.index.AddRefusal.TheVariants.{NumberTooHigh, NumberInUse, KeyThere}
-use Rattle.index.specs.declared.index.DiscardRefusal.{DiscardRefusal}
-use Rattle.index.specs.declared.index.DiscardRefusal.TheVariants.{NumberFree}
+use Rattle.index.specs.declared.refusal.AddRefusal.{AddRefusal}
+use Rattle.index.specs.declared.refusal.AddRefusal.TheVariants.{NumberTooHigh, NumberInUse, KeyThere}
+use Rattle.index.specs.declared.refusal.DiscardRefusal.{DiscardRefusal}
+use Rattle.index.specs.declared.refusal.DiscardRefusal.TheVariants.{NumberFree}
 
 -- why an add is refused
 abbrev pub add_code : AddRefusal → Code

@@ -4,6 +4,8 @@
 
 mod index;
 mod ordered;
+mod refusal;
 
-pub use index::{AddRefusal, DiscardRefusal, Index};
+pub use index::Index;
 pub use ordered::OrderedIndex;
+pub use refusal::{AddRefusal, DiscardRefusal};

@@ -7,9 +7,9 @@ use crate::index::Index;
 pub trait OrderedIndex: Index {
     // The least key with its number, or none where there is no key.
     fn first(&self) -> Option<(Self::Key, usize)>
-        ensures answer { Self.Index.sound self.now → result ≡ least Self.Key.Key.order None (Self.Index.slots self.now) };
+        ensures answer { result ≡ least Self.Key.Key.order None (Self.Index.slots self.now) };
 
     // The least key greater than the given one with its number, or none where there is none.
     fn next(&self, key: Self::Key) -> Option<(Self::Key, usize)>
-        ensures answer { Self.Index.sound self.now → result ≡ least Self.Key.Key.order (Some key) (Self.Index.slots self.now) };
+        ensures answer { result ≡ least Self.Key.Key.order (Some key) (Self.Index.slots self.now) };
 }

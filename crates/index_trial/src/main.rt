@@ -9,12 +9,11 @@ mod subject;
 mod tally;
 
 use bucket_index::{BucketIndex, CAPACITY};
-use index::Index;
 use keys::CodeKey;
 use plain::PlainList;
 use script::{Kind, Script};
 use std::io;
-use subject::{Ordered, Plain, Subject};
+use subject::Subject;
 use tally::{Tally, drive};
 use tree_index::{Node, SearchTree};
 
@@ -35,10 +34,11 @@ fn try_out<S: Subject + Drop>(
     capacity: usize,
     script: &Script,
 ) -> io::Result<()> {
-    let mut tally = Tally::new();
-    drive(rt.alloc(), &mut subject, capacity, script, &mut tally)?;
-    let mut subject = subject.emptied();
-    drive(rt.alloc(), &mut subject, capacity, script, &mut tally)?;
+    let mut replies = Vec::new(rt.alloc());
+    drive(rt.alloc(), &mut subject, capacity, script, &mut replies)?;
+    let mut subject = subject.anew();
+    drive(rt.alloc(), &mut subject, capacity, script, &mut replies)?;
+    let tally = Tally::of(&replies);
     println!(rt; "  {name}: {tally:?}")
 }
 
@@ -53,7 +53,7 @@ fn try_tree(
     let capacity = count.min(CAPACITY);
     let list = PlainList::new(rt.alloc(), capacity);
     try_out(rt, "PlainList", list, capacity, script)?;
-    let tree = Ordered(SearchTree::new(&mut nodes[0..count]));
+    let tree = SearchTree::new(&mut nodes[..count]);
     try_out(rt, "SearchTree", tree, capacity, script)
 }
 
@@ -62,8 +62,7 @@ fn try_all(rt: &HostRuntime, nodes: &mut [Node<CodeKey>], kind: Kind) -> io::Res
     println!(rt; "{kind:?}")?;
     let script = Script::of(rt.alloc(), kind)?;
     try_tree(rt, nodes, NODES, &script)?;
-    let bucket = Plain(BucketIndex::new());
-    try_out(rt, "BucketIndex", bucket, CAPACITY, &script)
+    try_out(rt, "BucketIndex", BucketIndex::new(), CAPACITY, &script)
 }
 
 // The plain list and a tree of so small a capacity.
@@ -75,11 +74,11 @@ fn try_small(rt: &HostRuntime, nodes: &mut [Node<CodeKey>], capacity: usize) -> 
 
 // Every list of calls, and then every capacity, in the same nodes.
 fn try_every(rt: &HostRuntime, nodes: &mut [Node<CodeKey>]) -> io::Result<()> {
-    for kind in KINDS.iter() {
-        try_all(rt, nodes, *kind)?;
+    for kind in KINDS {
+        try_all(rt, nodes, kind)?;
     }
-    for capacity in CAPACITIES.iter() {
-        try_small(rt, nodes, *capacity)?;
+    for capacity in CAPACITIES {
+        try_small(rt, nodes, capacity)?;
     }
     Ok(())
 }

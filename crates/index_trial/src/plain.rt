@@ -1,11 +1,10 @@
 // The plain list of pairs that the indexes are held against: a capacity, and keys with their numbers in no order.
-// Every call goes through the whole list, so that it is plain what it answers.
-use crate::call::{Answer, Call, added, discarded, number, pair};
+// A list and no map: every call goes through the whole of it, so that it is plain what it answers, and it shares nothing with an index.
+use crate::call::{Answer, Call};
 use crate::subject::Subject;
 use index::{AddRefusal, DiscardRefusal};
-use keys::{CodeKey, Key};
+use keys::CodeKey;
 use std::alloc::{AllocError, Global};
-use std::cmp::Ordering;
 
 #[derive(Drop)]
 pub struct PlainList {
@@ -24,41 +23,29 @@ impl PlainList {
     // What is answered to the call.
     pub fn reply(&mut self, call: Call) -> Result<Answer, AllocError> {
         let answer = match call {
-            Call::Capacity => Answer::Number(self.capacity),
-            Call::Count => Answer::Number(self.pairs.len()),
-            Call::Find(key) => number(self.find(key)),
-            Call::Add(key, number) => added(self.add(key, number)?),
-            Call::Discard(number) => discarded(self.discard(number)),
-            Call::First => pair(self.least_beyond(None)),
-            Call::Next(key) => pair(self.least_beyond(Some(key))),
+            Call::Capacity => Answer::Number(Some(self.capacity)),
+            Call::Count => Answer::Number(Some(self.pairs.len())),
+            Call::Find(key) => Answer::Number(self.find(key)),
+            Call::Add(key, number) => Answer::Added(self.add(key, number)?),
+            Call::Discard(number) => Answer::Discarded(self.discard(number)),
+            Call::First => Answer::Pair(self.least_beyond(None)),
+            Call::Next(key) => Answer::Pair(self.least_beyond(Some(key))),
         };
         Ok(answer)
     }
 
     fn find(&self, key: CodeKey) -> Option<usize> {
-        for (k, number) in self.pairs.iter() {
-            if matches!(key.compare(*k), Ordering::Equal) {
-                return Some(*number);
-            }
-        }
-        None
-    }
-
-    // Where in the list the number stands.
-    fn position(&self, number: usize) -> Option<usize> {
-        for (i, (_, n)) in self.pairs.iter().enumerate() {
-            if *n == number {
-                return Some(i);
-            }
-        }
-        None
+        self.pairs
+            .iter()
+            .find(|pair| pair.0 == key)
+            .map(|pair| pair.1)
     }
 
     fn add(&mut self, key: CodeKey, number: usize) -> Result<Result<(), AddRefusal>, AllocError> {
         if number >= self.capacity {
             return Ok(Err(AddRefusal::NumberTooHigh));
         }
-        if self.position(number).is_some() {
+        if self.pairs.iter().any(|pair| pair.1 == number) {
             return Ok(Err(AddRefusal::NumberInUse));
         }
         if self.find(key).is_some() {
@@ -69,24 +56,22 @@ impl PlainList {
     }
 
     fn discard(&mut self, number: usize) -> Result<(), DiscardRefusal> {
-        match self.position(number) {
-            Some(i) if i < self.pairs.len() => {
-                self.pairs.remove(i);
-                Ok(())
-            }
-            _ => Err(DiscardRefusal::NumberFree),
-        }
+        let place = self
+            .pairs
+            .iter()
+            .position(|pair| pair.1 == number)
+            .ok_or(DiscardRefusal::NumberFree)?;
+        self.pairs.remove(place);
+        Ok(())
     }
 
-    // The least key, or the least greater than the given one, with its number.
+    // The least key, or the least greater than the given one, with its number. No key is less than every key.
     fn least_beyond(&self, given: Option<CodeKey>) -> Option<(CodeKey, usize)> {
-        let mut best: Option<(CodeKey, usize)> = None;
-        for (key, number) in self.pairs.iter() {
-            if is_beyond(*key, given) && is_better(*key, best) {
-                best = Some((*key, *number));
-            }
-        }
-        best
+        self.pairs
+            .iter()
+            .filter(|pair| given < Some(pair.0))
+            .min_by_key(|pair| pair.0)
+            .copied()
     }
 }
 
@@ -96,26 +81,12 @@ impl Subject for PlainList {
         self.reply(call).ok()
     }
 
-    fn emptied(self) -> PlainList {
+    fn anew(self) -> PlainList {
         let PlainList {
             capacity,
             mut pairs,
         } = self;
         pairs.clear();
         PlainList { capacity, pairs }
-    }
-}
-
-fn is_beyond(key: CodeKey, given: Option<CodeKey>) -> bool {
-    match given {
-        None => true,
-        Some(given) => matches!(given.compare(key), Ordering::Less),
-    }
-}
-
-fn is_better(key: CodeKey, best: Option<(CodeKey, usize)>) -> bool {
-    match best {
-        None => true,
-        Some((k, _)) => matches!(key.compare(k), Ordering::Less),
     }
 }

@@ -7,7 +7,7 @@ use std::alloc::{AllocError, Global};
 // How many keys a full index has.
 const FULL: u16 = 512;
 
-// The kinds of lists.
+// The kinds of lists. An enum and no closures, since the name of a kind is printed beside what came of it.
 #[derive(Clone, Copy, Debug)]
 pub enum Kind {
     Discards,
@@ -75,28 +75,25 @@ impl Script {
         Ok(script)
     }
 
-    fn ask(&mut self, call: Call) -> Result<(), AllocError> {
-        self.calls.push(call)?;
-        Ok(())
+    fn ask(&mut self, calls: &[Call]) -> Result<(), AllocError> {
+        self.calls.extend_from_slice(calls)
     }
 
     // Adds the keys of these codes, with numbers from 0 on.
     fn add_all(&mut self, codes: &[u16]) -> Result<(), AllocError> {
         for (number, code) in codes.iter().enumerate() {
-            self.ask(Call::Add(key(*code), number))?;
+            self.ask(&[Call::Add(key(*code), number)])?;
         }
         Ok(())
     }
 
     // Asks for everything: capacity, count, the first key, and for each code its number and the next key.
     fn survey(&mut self, codes: &[u16]) -> Result<(), AllocError> {
-        self.ask(Call::Capacity)?;
-        self.ask(Call::Count)?;
-        self.ask(Call::First)?;
+        self.ask(&[Call::Capacity, Call::Count, Call::First])?;
         for code in codes {
-            self.ask(Call::Find(key(*code)))?;
-            self.ask(Call::Next(key(*code)))?;
-            self.ask(Call::Next(key(code.saturating_sub(1))))?;
+            let before = key(code.saturating_sub(1));
+            let key = key(*code);
+            self.ask(&[Call::Find(key), Call::Next(key), Call::Next(before)])?;
         }
         Ok(())
     }
@@ -105,13 +102,13 @@ impl Script {
     fn come_and_go(&mut self, codes: &[u16], gone: usize) -> Result<(), AllocError> {
         self.add_all(codes)?;
         self.survey(codes)?;
-        self.ask(Call::Discard(gone))?;
+        self.ask(&[Call::Discard(gone)])?;
         self.survey(codes)?;
-        self.ask(Call::Discard(gone))?;
+        self.ask(&[Call::Discard(gone)])?;
         self.add_all(codes)?;
         self.survey(codes)?;
         for number in 0..codes.len() {
-            self.ask(Call::Discard(number))?;
+            self.ask(&[Call::Discard(number)])?;
             self.survey(codes)?;
         }
         Ok(())
@@ -119,8 +116,8 @@ impl Script {
 
     // Discards of a leaf, of nodes with one and with two children, of the root and of the last key.
     fn discards(&mut self) -> Result<(), AllocError> {
-        for shape in SHAPES.iter() {
-            self.come_and_go(shape.0, shape.1)?;
+        for Shape(codes, gone) in SHAPES {
+            self.come_and_go(codes, gone)?;
         }
         Ok(())
     }
@@ -128,16 +125,14 @@ impl Script {
     // A full index, every refusal in its order, and every key found and discarded again.
     fn full(&mut self) -> Result<(), AllocError> {
         for i in 0..FULL {
-            self.ask(Call::Add(spread_key(i), i as usize))?;
+            self.ask(&[Call::Add(spread_key(i), usize::from(i))])?;
         }
         self.refusals()?;
         for i in 0..FULL {
-            self.ask(Call::Find(spread_key(i)))?;
-            self.ask(Call::Next(spread_key(i)))?;
+            self.ask(&[Call::Find(spread_key(i)), Call::Next(spread_key(i))])?;
         }
         for i in 0..FULL {
-            self.ask(Call::Discard((i * 5 % FULL) as usize))?;
-            self.ask(Call::First)?;
+            self.ask(&[Call::Discard(usize::from(i * 5 % FULL)), Call::First])?;
         }
         Ok(())
     }
@@ -145,7 +140,7 @@ impl Script {
     // Refusals at a full index: 14 also where 16 holds, 15 also where 16 holds, 16 at a free number, 17 at it and past the capacity.
     fn refusals(&mut self) -> Result<(), AllocError> {
         let strange = key(600);
-        let calls = [
+        self.ask(&[
             Call::Add(strange, 512),
             Call::Add(spread_key(3), 512),
             Call::Add(strange, 511),
@@ -158,24 +153,24 @@ impl Script {
             Call::Count,
             Call::Add(spread_key(100), 100),
             Call::Add(strange, usize::MAX),
-        ];
-        for call in calls.iter() {
-            self.ask(*call)?;
-        }
-        Ok(())
+        ])
     }
 
     // Keys that rise, which make the deepest tree, and discards from both ends.
     fn rising(&mut self) -> Result<(), AllocError> {
         for i in 0..FULL {
-            self.ask(Call::Add(key(i), i as usize))?;
+            self.ask(&[Call::Add(key(i), usize::from(i))])?;
         }
         for i in 0..FULL {
             let number = if i % 2 == 0 { i / 2 } else { FULL - 1 - i / 2 };
-            self.ask(Call::Discard(number as usize))?;
-            self.ask(Call::Find(key(number)))?;
-            self.ask(Call::Next(key(number)))?;
-            self.ask(Call::Count)?;
+            let key = key(number);
+            let number = usize::from(number);
+            self.ask(&[
+                Call::Discard(number),
+                Call::Find(key),
+                Call::Next(key),
+                Call::Count,
+            ])?;
         }
         Ok(())
     }
@@ -185,7 +180,7 @@ impl Script {
         let mut seed = 2024u32;
         for _ in 0..calls {
             seed = seed.wrapping_mul(1664525).wrapping_add(1013904223);
-            self.ask(drawn(seed))?;
+            self.ask(&[drawn(seed)])?;
         }
         Ok(())
     }

@@ -3,14 +3,59 @@ use crate::call::Answer;
 use crate::plain::PlainList;
 use crate::script::Script;
 use crate::subject::Subject;
+use index::{AddRefusal, DiscardRefusal};
 use std::alloc::{AllocError, Global};
 
-// An answer that differs from the plain list's, with the place of its call.
+// What was answered to the call at this place of its list.
 #[derive(Clone, Copy, Debug)]
-pub struct Difference {
+pub struct Reply {
     place: usize,
     listed: Answer,
     answered: Answer,
+}
+
+impl Reply {
+    // Whether the answer differs from the plain list's.
+    fn differs(&self) -> bool {
+        self.answered != self.listed
+    }
+}
+
+// Drives the subject through the calls beside a new plain list of this capacity, and notes what each answered.
+pub fn drive<S: Subject>(
+    heap: Global,
+    subject: &mut S,
+    capacity: usize,
+    script: &Script,
+    replies: &mut Vec<Reply>,
+) -> Result<(), AllocError> {
+    let mut list = PlainList::new(heap, capacity);
+    for (place, call) in script.calls.iter().enumerate() {
+        let listed = list.reply(*call)?;
+        if let Some(answered) = subject.answer(*call) {
+            replies.push(Reply {
+                place,
+                listed,
+                answered,
+            })?;
+        }
+    }
+    Ok(())
+}
+
+// The refusals, in the order of their numbers.
+const REFUSALS: [Answer; 4] = [
+    Answer::Added(Err(AddRefusal::NumberTooHigh)),
+    Answer::Added(Err(AddRefusal::NumberInUse)),
+    Answer::Added(Err(AddRefusal::KeyThere)),
+    Answer::Discarded(Err(DiscardRefusal::NumberFree)),
+];
+
+// How many replies have an answer of this kind.
+fn count<F: Fn(&Answer) -> bool>(replies: &[Reply], kind: F) -> usize
+    requires { F.IsAlwaysCallable kind }
+{
+    replies.iter().filter(|reply| kind(&reply.answered)).count()
 }
 
 #[derive(Clone, Copy, Debug)]
@@ -20,66 +65,29 @@ pub struct Tally {
     pairs: usize,
     nothing: usize,
     granted: usize,
-    // of the refusals 14, 15, 16 and 17
     refused: [usize; 4],
     differences: usize,
-    first: Option<Difference>,
+    // the first reply that differs
+    first: Option<Reply>,
 }
 
 impl Tally {
-    pub fn new() -> Tally {
+    pub fn of(replies: &[Reply]) -> Tally {
         Tally {
-            asked: 0,
-            numbers: 0,
-            pairs: 0,
-            nothing: 0,
-            granted: 0,
-            refused: [0; 4],
-            differences: 0,
-            first: None,
+            asked: replies.len(),
+            numbers: count(replies, |a| matches!(a, Answer::Number(Some(_)))),
+            pairs: count(replies, |a| matches!(a, Answer::Pair(Some(_)))),
+            nothing: count(
+                replies,
+                |a| matches!(a, Answer::Number(None) | Answer::Pair(None)),
+            ),
+            granted: count(
+                replies,
+                |a| matches!(a, Answer::Added(Ok(_)) | Answer::Discarded(Ok(_))),
+            ),
+            refused: REFUSALS.map(|refusal| count(replies, |a| *a == refusal)),
+            differences: replies.iter().filter(|reply| reply.differs()).count(),
+            first: replies.iter().find(|reply| reply.differs()).copied(),
         }
     }
-
-    // Counts the answer to the call at this place of the list.
-    fn count(&mut self, place: usize, listed: Answer, answered: Answer) {
-        self.asked = self.asked.saturating_add(1);
-        match answered {
-            Answer::Number(_) => self.numbers = self.numbers.saturating_add(1),
-            Answer::Pair(_, _, _) => self.pairs = self.pairs.saturating_add(1),
-            Answer::Nothing => self.nothing = self.nothing.saturating_add(1),
-            Answer::Granted => self.granted = self.granted.saturating_add(1),
-            Answer::Refused(number) => {
-                let i = number.saturating_sub(14) as usize % 4;
-                self.refused[i] = self.refused[i].saturating_add(1);
-            }
-        }
-        if answered != listed {
-            self.differences = self.differences.saturating_add(1);
-            if self.first.is_none() {
-                self.first = Some(Difference {
-                    place,
-                    listed,
-                    answered,
-                });
-            }
-        }
-    }
-}
-
-// Drives the subject through the calls beside a new plain list of this capacity, and counts its answers.
-pub fn drive<S: Subject>(
-    heap: Global,
-    subject: &mut S,
-    capacity: usize,
-    script: &Script,
-    tally: &mut Tally,
-) -> Result<(), AllocError> {
-    let mut list = PlainList::new(heap, capacity);
-    for (place, call) in script.calls.iter().enumerate() {
-        let listed = list.reply(*call)?;
-        if let Some(answered) = subject.answer(*call) {
-            tally.count(place, listed, answered);
-        }
-    }
-    Ok(())
 }

@@ -3,16 +3,15 @@
 -- neither part, and no place stands in both, since a place has one key and a key belongs on one side. So the other part
 -- lies as it did. Removing the key of a fork brings up the least node of its right part (`least_comes_up`), which is
 -- greater than all on the left and less than what is left on the right.
-use Rattle.std.proofs.Common.{◌≡◌, ℕ, suc, ◌≤◌, ◌⊎◌, List, length, Some, None, Option, Ordering, sym, refl, ap, ◌∙◌, subst, inl, inr, ⊎_elim, arith}
+use Rattle.std.proofs.Common.{◌≡◌, ℕ, suc, ◌≤◌, ◌⊎◌, List, Some, None, Option, Ordering, sym, refl, ap, ◌∙◌, subst, inl, inr, ⊎_elim, arith}
 use Rattle.index.proofs.Nth.{nth_map, nth_unmap}
 use Rattle.index.proofs.Orders.{same_or_not}
 use Rattle.index.proofs.Slots.{one_key}
 use Rattle.index.specs.Slots.{Maps}
 use Rattle.keys.specs.Orders.{Total}
 use Rattle.tree_index.proofs.Layouts.{in_maps, lies_kept, part_lower, stands_once}
-use Rattle.tree_index.proofs.Nodes.{keys_relinked, relinked_other, relinked_same, same_length}
+use Rattle.tree_index.proofs.Nodes.{keys_relinked, relinked_other, relinked_same}
 use Rattle.tree_index.proofs.Links.{each_part, new_part, one_side, same_side, side_apart, with_part}
-use Rattle.tree_index.specs.declared.link.Link.{Link}
 use Rattle.tree_index.specs.declared.link.Links.{Links}
 use Rattle.tree_index.specs.declared.link.Side.{Side}
 use Rattle.tree_index.specs.declared.link.Side.TheVariants.{Left, Right}
@@ -21,33 +20,37 @@ use Rattle.tree_index.specs.declared.remove.Min.{Min}
 use Rattle.tree_index.specs.Links.{child, with_child}
 use Rattle.tree_index.specs.Changes.{Becomes, Fresh, LosesMin}
 use Rattle.tree_index.specs.Layouts.{Lies}
-use Rattle.tree_index.specs.Nodes.{keys, relinked}
+use Rattle.tree_index.specs.Nodes.{childless, keys, relinked}
 use Rattle.tree_index.specs.Trees.{In, On, Ordered, Tree, fork, height, leaf}
 use Rattle.std.specs.List.{slice_get}
 
+no_child : (side : Side) → child (record { left = None; right = None }) side ≡ None
+no_child Left = refl
+no_child Right = refl
+
 module _ {K : Type 0} (order : K → K → Ordering) (total : Total order) where
   -- the new node alone, where the tree was empty
-  pub new_leaf : (nodes : List (Node K)) (new : Link) (key : K) → Fresh nodes new key → Becomes order nodes nodes leaf new key (Some new.place)
+  pub new_leaf : (nodes : List (Node K)) (new : Option ℕ) (key : K) → Fresh nodes new key → Becomes order nodes nodes leaf new key new
   new_leaf nodes new key fresh =
       record {
-        tree = fork (λ side. leaf) new.place key;
-        lies = (refl, fresh.0, fresh.1, fresh.2);
+        tree = fork (λ side. leaf) fresh.0 key;
+        lies = (fresh.1, (childless (Some key)).links, fresh.2, no_child);
         ordered = λ side. ((λ n k i. absurd i), tt);
-        here = λ n. (elim [ inl q ↦ ap Some q.0 | inr p ↦ absurd p.1 ], λ e. let place : new.place ≡ n = cc in inl (place, refl));
+        here = λ n. (elim [ inl q ↦ fresh.1 ∙ ap Some q.0 | inr p ↦ absurd p.1 ], λ e. let led : new ≡ Some fresh.0 = fresh.1 in let place : fresh.0 ≡ n = cc in inl (place, refl));
         others = λ n k ne. (elim [ inl q ↦ absurd (ne q.1) | inr p ↦ absurd p.1 ], λ i. absurd i);
-        no_higher = λ e. let z : ◌≡◌ {A = ℕ} 0 1 = cc in absurd (omega arith);
+        no_higher = λ e. cc;
         same_keys = refl;
         outside = λ n out. refl;
       }
 
   -- the empty tree, where the tree was empty
-  pub old_leaf : (nodes : List (Node K)) (at : Link) (key : K) → length nodes ≤ at.place → Becomes order nodes nodes leaf at key None
+  pub old_leaf : (nodes : List (Node K)) (at : Option ℕ) (key : K) → at ≡ None → Becomes order nodes nodes leaf at key None
   old_leaf nodes at key past =
       record {
         tree = leaf;
         lies = past;
         ordered = tt;
-        here = λ n. ((λ i. absurd i), λ e. let z : ◌≡◌ {A = ℕ} 0 1 = cc in absurd (omega arith));
+        here = λ n. ((λ i. absurd i), λ e. cc);
         others = λ n k ne. ((λ i. i), λ i. i);
         no_higher = λ e. omega arith;
         same_keys = refl;
@@ -87,7 +90,7 @@ module _ {K : Type 0} (order : K → K → Ordering) (total : Total order) where
           tree = parts side;
           lies = lies side;
           ordered = (o side).1;
-          here = λ n. ((λ i. absurd (own_key side n i)), λ e. let z : ◌≡◌ {A = ℕ} 0 1 = cc in absurd (omega arith));
+          here = λ n. ((λ i. absurd (own_key side n i)), λ e. cc);
           others = λ n k ne. ((λ i. inr (side, i)), elim [ inl q ↦ absurd (ne q.1) | inr p ↦ there n k p.0 p.1 ]);
           no_higher = λ e. let lower : suc (height (parts side)) ≤ height (fork parts place key) = part_lower parts place key side in omega arith;
           same_keys = refl;
@@ -98,10 +101,10 @@ module _ {K : Type 0} (order : K → K → Ordering) (total : Total order) where
         there n k s i = ⊎_elim (λ e. subst (λ (x : Side). In (parts x) n k) e i) (λ ne. absurd (subst (λ (u : Tree K). In u n k) (empty s ne) i)) (same_side s side)
 
     -- the least node of the right part comes up in the place of the fork's node
-    pub least_comes_up : (mid after : List (Node K)) (least : Min) → after ≡ relinked mid least.link.place (with_child links Right least.rest) →
-        LosesMin order before mid (Some least) (parts Right) → Becomes order before after (fork parts place key) least.link key None
+    pub least_comes_up : (mid after : List (Node K)) (least : Min) → after ≡ relinked mid least.place (with_child links Right least.rest) →
+        LosesMin order before mid (Some least) (parts Right) → Becomes order before after (fork parts place key) (Some least.place) key None
     least_comes_up mid after least is takes =
-        subst (λ (nodes : List (Node K)). Becomes order before nodes (fork parts place key) least.link key None) (sym is)
+        subst (λ (nodes : List (Node K)). Becomes order before nodes (fork parts place key) (Some least.place) key None) (sym is)
         (record {
           tree = fork (with_part parts Right b.tree) m top;
           lies = (refl, with_child links Right least.rest, relinked_same mid m _ _ node.1 ∙ ap (λ (x : Option K). Some (record { key = x; links = with_child links Right least.rest })) node.2, each_part (λ s l u. Lies result l u) links parts Right least.rest b.tree new_lies old_lies);
@@ -111,7 +114,7 @@ module _ {K : Type 0} (order : K → K → Ordering) (total : Total order) where
               | inl q ↦ absurd (side_apart order total Right top key ((o Right).0 m top at_top) q.1)
               | inr p ↦ ⊎_elim (λ i. absurd (own_key Right n ((b.others n key (λ e. side_apart order total Right top key ((o Right).0 m top at_top) e)).0 i))) (λ q. absurd (own_key p.0 n q.1)) (from_changed Right b.tree n key p.0 p.1)
             ],
-            λ e. let z : ◌≡◌ {A = ℕ} 0 1 = cc in absurd (omega arith),
+            λ e. cc,
           );
           others = λ n k ne. (
             elim [
@@ -126,7 +129,7 @@ module _ {K : Type 0} (order : K → K → Ordering) (total : Total order) where
         })
       where
         m : ℕ
-        m = least.link.place
+        m = least.place
 
         top : K
         top = takes.0
@@ -140,16 +143,13 @@ module _ {K : Type 0} (order : K → K → Ordering) (total : Total order) where
         result : List (Node K)
         result = relinked mid m (with_child links Right least.rest)
 
-        long : length result ≡ length mid
-        long = same_length mid result (keys_relinked mid m _)
-
         -- the node has the key that it had
         node : (x : Node K) × (slice_get mid m ≡ Some x) × (x.key ≡ Some top)
         node = nth_unmap (λ (x : Node K). x.key) mid m (Some top) (ap (λ (ks : List (Option K)). slice_get ks m) b.same_keys ∙ part_maps Right m top at_top)
 
         -- what is left of the right part was there, and has another key
         not_top : (n : ℕ) (k : K) → In b.tree n k → top ≡ k → ⊥
-        not_top n k i e = let never : None ≡ Some n = (b.here n).0 (subst (λ (x : K). In b.tree n x) (sym e) i) in let z : ◌≡◌ {A = ℕ} 0 1 = cc in omega arith
+        not_top n k i e = let never : None ≡ Some n = (b.here n).0 (subst (λ (x : K). In b.tree n x) (sym e) i) in cc
 
         from_rest : (n : ℕ) (k : K) → In b.tree n k → In (parts Right) n k
         from_rest n k i = (b.others n k (not_top n k i)).0 i
@@ -167,12 +167,12 @@ module _ {K : Type 0} (order : K → K → Ordering) (total : Total order) where
             (λ ne. inr (s, to_changed Right b.tree n k (b.others n k ne).1 s i)) (same_or_not order total top k)
 
         new_lies : Lies result least.rest b.tree
-        new_lies = lies_kept mid result long least.rest b.tree b.lies
+        new_lies = lies_kept mid result least.rest b.tree b.lies
             (λ n k i. relinked_other mid m n _
             (λ e. not_top n k i (one_key (keys before) n top k (subst (λ (j : ℕ). Maps (keys before) j top) (sym e) (part_maps Right m top at_top)) (part_maps Right n k (from_rest n k i)))))
 
         old_lies : (s : Side) → (s ≡ Right → ⊥) → Lies result (child links s) (parts s)
-        old_lies s ne = lies_kept before result (long ∙ same_length before mid b.same_keys) (child links s) (parts s) (lies s)
+        old_lies s ne = lies_kept before result (child links s) (parts s) (lies s)
             (λ n k i. relinked_other mid m n _ (λ e. ne (one_part s Right m k top (subst (λ (j : ℕ). In (parts s) j k) e i) at_top)) ∙ b.outside n (λ j w. ne (one_part s Right n k j i w)))
 
     -- the place of the fork's node stands in no part
@@ -183,8 +183,8 @@ module _ {K : Type 0} (order : K → K → Ordering) (total : Total order) where
           side_apart order total side k key ((o side).0 place k i) (one_key (keys before) place k key (part_maps side place k i) own)
 
       -- one part becomes another, and the node is relinked
-      pub part_becomes : (mid after : List (Node K)) (at link : Link) (side : Side) (new : K) (number : Option ℕ) →
-          at.place ≡ place → On order side new key → (number ≡ Some place → ⊥) → after ≡ relinked mid place (with_child links side link) →
+      pub part_becomes : (mid after : List (Node K)) (at link : Option ℕ) (side : Side) (new : K) (number : Option ℕ) →
+          at ≡ Some place → On order side new key → (number ≡ Some place → ⊥) → after ≡ relinked mid place (with_child links side link) →
           Becomes order before mid (parts side) link new number → Becomes order before after (fork parts place key) at new number
       part_becomes mid after at link side new number leads on apart is b =
           subst (λ (nodes : List (Node K)). Becomes order before nodes (fork parts place key) at new number) (sym is)
@@ -214,9 +214,6 @@ module _ {K : Type 0} (order : K → K → Ordering) (total : Total order) where
           result : List (Node K)
           result = relinked mid place (with_child links side link)
 
-          long : length result ≡ length mid
-          long = same_length mid result (keys_relinked mid place _)
-
           part_changed : (s : Side) → height b.tree ≤ height (parts s) → height (fork (with_part parts s b.tree) place key) ≤ height (fork parts place key)
           part_changed Left h = omega arith
           part_changed Right h = omega arith
@@ -228,34 +225,34 @@ module _ {K : Type 0} (order : K → K → Ordering) (total : Total order) where
           new_place k i = ⊎_elim (λ e. apart ((b.here place).0 (subst (λ (x : K). In b.tree place x) (sym e) i))) (λ ne. own_place side k ((b.others place k ne).0 i)) (same_or_not order total new k)
 
           new_lies : Lies result link b.tree
-          new_lies = lies_kept mid result long link b.tree b.lies (λ n k i. relinked_other mid place n _ (λ e. new_place k (subst (λ (m : ℕ). In b.tree m k) e i)))
+          new_lies = lies_kept mid result link b.tree b.lies (λ n k i. relinked_other mid place n _ (λ e. new_place k (subst (λ (m : ℕ). In b.tree m k) e i)))
 
           old_lies : (s : Side) → (s ≡ side → ⊥) → Lies result (child links s) (parts s)
-          old_lies s ne = lies_kept before result (long ∙ same_length before mid b.same_keys) (child links s) (parts s) (lies s)
+          old_lies s ne = lies_kept before result (child links s) (parts s) (lies s)
               (λ n k i. relinked_other mid place n _ (λ e. own_place s k (subst (λ (m : ℕ). In (parts s) m k) e i)) ∙ b.outside n (λ j w. ne (one_part s side n k j i w)))
 
       -- the least node of the fork is that of its left part
-      pub least_further : (mid after : List (Node K)) (at : Link) (least : Min) → at.place ≡ place → after ≡ relinked mid place (with_child links Left least.rest) →
-          LosesMin order before mid (Some least) (parts Left) → LosesMin order before after (Some (record { link = least.link; rest = at })) (fork parts place key)
+      pub least_further : (mid after : List (Node K)) (at : Option ℕ) (least : Min) → at ≡ Some place → after ≡ relinked mid place (with_child links Left least.rest) →
+          LosesMin order before mid (Some least) (parts Left) → LosesMin order before after (Some (record { place = least.place; rest = at })) (fork parts place key)
       least_further mid after at least leads is takes = (
         takes.0,
         inr (Left, takes.1),
         (λ n k. elim [ inl q ↦ λ ne. subst (λ (x : K). On order Left takes.0 x) q.1 lower | inr p ↦ lowest n k p.0 p.1 ]),
-        part_becomes mid after at least.rest Left takes.0 None leads lower (λ e. let z : ◌≡◌ {A = ℕ} 0 1 = cc in omega arith) is takes.3,
+        part_becomes mid after at least.rest Left takes.0 None leads lower (λ e. cc) is takes.3,
       )
         where
           lower : On order Left takes.0 key
-          lower = (o Left).0 least.link.place takes.0 takes.1
+          lower = (o Left).0 least.place takes.0 takes.1
 
           lowest : (n : ℕ) (k : K) (s : Side) → In (parts s) n k → (takes.0 ≡ k → ⊥) → On order Left takes.0 k
           lowest n k Left i ne = takes.2 n k i ne
           lowest n k Right i ne = total.passes takes.0 key k lower ((o Right).0 n k i)
 
     -- where the left part is empty, the least node of the fork is its own
-    pub least_here : (at : Link) → at.place ≡ place → parts Left ≡ leaf → LosesMin order before before (Some (record { link = at; rest = links.right })) (fork parts place key)
-    least_here at leads empty = (
+    pub least_here : parts Left ≡ leaf → LosesMin order before before (Some (record { place = place; rest = links.right })) (fork parts place key)
+    least_here empty = (
       key,
-      inl (sym leads, refl),
+      inl (refl, refl),
       (λ n k. elim [ inl q ↦ λ ne. absurd (ne q.1) | inr p ↦ lowest n k p.0 p.1 ]),
       part_alone Right others_empty,
     )

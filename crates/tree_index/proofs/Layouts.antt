@@ -2,15 +2,14 @@
 -- A tree in order is no higher than there are keys: the root's place holds a key that no part has, so each part lies in
 -- slots with one key fewer. What a link leads to tells which trees can lie there: none but the empty one where it leads to
 -- no node with a key, and forks with the node's number and key where it leads to a node.
-use Rattle.std.proofs.Common.{◌≡◌, ℕ, suc, ◌<◌, ◌≤◌, List, length, set, Some, None, Option, Ordering, sym, refl, ap, ◌∙◌, subst, inl, inr, arith}
-use Rattle.index.proofs.Nth.{nth_map, nth_set_other, nth_within}
+use Rattle.std.proofs.Common.{◌≡◌, ℕ, suc, ◌≤◌, List, set, Some, None, Option, Ordering, sym, refl, ap, ◌∙◌, subst, inl, inr, arith}
+use Rattle.index.proofs.Nth.{nth_map, nth_set_other}
 use Rattle.index.proofs.Slots.{count_fewer, one_key}
 use Rattle.index.specs.Slots.{Maps, count_of}
 use Rattle.keys.specs.Orders.{Total}
 use Rattle.std.specs.List.{slice_get}
 use Rattle.tree_index.proofs.Links.{one_side, side_apart}
 use Rattle.tree_index.proofs.Nodes.{same_key, same_node}
-use Rattle.tree_index.specs.declared.link.Link.{Link}
 use Rattle.tree_index.specs.declared.link.Links.{Links}
 use Rattle.tree_index.specs.declared.link.Side.{Side}
 use Rattle.tree_index.specs.declared.link.Side.TheVariants.{Left, Right}
@@ -21,17 +20,17 @@ use Rattle.tree_index.specs.Links.{child}
 use Rattle.tree_index.specs.Nodes.{Leads, keys}
 use Rattle.tree_index.specs.Trees.{In, Ordered, Tree, fork, height, leaf}
 
-pub lies_kept : {K : Type 0} (before after : List (Node K)) → length after ≡ length before → (at : Link) (t : Tree K) → Lies before at t →
+pub lies_kept : {K : Type 0} (before after : List (Node K)) (at : Option ℕ) (t : Tree K) → Lies before at t →
     ((n : ℕ) (k : K) → In t n k → slice_get after n ≡ slice_get before n) → Lies after at t
-lies_kept before after long at leaf lies same = omega arith
-lies_kept before after long at (fork parts n k) lies same = (
+lies_kept before after at leaf lies same = lies
+lies_kept before after at (fork parts n k) lies same = (
   lies.0,
   lies.1,
   same n k (inl (refl, refl)) ∙ lies.2,
-  (λ side. lies_kept before after long (child lies.1 side) (parts side) (lies.3 side) (λ m x i. same m x (inr (side, i)))),
+  (λ side. lies_kept before after (child lies.1 side) (parts side) (lies.3 side) (λ m x i. same m x (inr (side, i)))),
 )
 
-pub in_maps : {K : Type 0} (nodes : List (Node K)) (at : Link) (t : Tree K) (n : ℕ) (k : K) → Lies nodes at t → In t n k → Maps (keys nodes) n k
+pub in_maps : {K : Type 0} (nodes : List (Node K)) (at : Option ℕ) (t : Tree K) (n : ℕ) (k : K) → Lies nodes at t → In t n k → Maps (keys nodes) n k
 in_maps nodes at leaf n k lies = λ i. absurd i
 in_maps {K} nodes at (fork parts m x) n k lies = elim [
   | inl q ↦
@@ -76,23 +75,23 @@ module _ {K : Type 0} (order : K → K → Ordering) (total : Total order) where
     ]
   ]
 
-leaf_there : {K : Type 0} (nodes : List (Node K)) (at : Link) (t : Tree K) → Leads nodes at None → Lies nodes at t → t ≡ leaf
+leaf_there : {K : Type 0} (nodes : List (Node K)) (at : Option ℕ) (t : Tree K) → Leads nodes at None → Lies nodes at t → t ≡ leaf
 leaf_there nodes at leaf leads lies = refl
-leaf_there nodes at (fork parts n k) leads lies = absurd (leads k lies.1 (ap (slice_get nodes) lies.0 ∙ lies.2))
+leaf_there nodes at (fork parts n k) leads lies = absurd (leads n k lies.1 lies.0 lies.2)
 
-fork_there : {K : Type 0} (nodes : List (Node K)) (at : Link) (found : Found K) (t : Tree K) → Leads nodes at (Some found) → Lies nodes at t →
+fork_there : {K : Type 0} (nodes : List (Node K)) (at : Option ℕ) (found : Found K) (t : Tree K) → Leads nodes at (Some found) → Lies nodes at t →
     (parts : Side → Tree K) × (t ≡ fork parts found.place found.key) × ((side : Side) → Lies nodes (child found.links side) (parts side))
-fork_there nodes at found leaf leads lies =
-    let within : found.place < length nodes = nth_within nodes found.place _ leads.1 in
-    let place : at.place ≡ found.place = leads.0 in absurd (omega arith)
+fork_there nodes at found leaf leads lies = let led : at ≡ Some found.place = leads.0 in absurd cc
 fork_there {K} nodes at found (fork parts n k) leads lies =
-    let place : n ≡ found.place = sym lies.0 ∙ leads.0 in
+    let led : at ≡ Some found.place = leads.0 in
+    let lain : at ≡ Some n = lies.0 in
+    let place : n ≡ found.place = cc in
     let there : slice_get nodes n ≡ Some (record { key = Some found.key; links = found.links }) = ap (slice_get nodes) place ∙ leads.1 in
     let key : k ≡ found.key = same_key nodes n _ _ k found.key lies.2 there refl refl in
     let links : lies.1 ≡ found.links = ap (λ (x : Node K). x.links) (same_node nodes n _ _ lies.2 there) in
     (parts, cc, λ side. subst (λ (l : Links). Lies nodes (child l side) (parts side)) links (lies.3 side))
 
-module _ {K : Type 0} (order : K → K → Ordering) (nodes : List (Node K)) (at : Link) (depth : ℕ) (So : Tree K → Type 0) where
+module _ {K : Type 0} (order : K → K → Ordering) (nodes : List (Node K)) (at : Option ℕ) (depth : ℕ) (So : Tree K → Type 0) where
   -- where the link leads to a node, what is so of forks is so of every tree that fits
   pub at_fork : (found : Found K) → Leads nodes at (Some found) →
       ((parts : Side → Tree K) → Ordered order (fork parts found.place found.key) → ((side : Side) → Lies nodes (child found.links side) (parts side)) →
@@ -108,7 +107,7 @@ module _ {K : Type 0} (order : K → K → Ordering) (nodes : List (Node K)) (at
   too_deep found leads z = at_fork found leads (λ parts o lies low. absurd (omega arith))
 
   -- where the link leads to no node, what is so of the empty tree is so of every tree that fits
-  pub at_leaf : Leads nodes at None → (length nodes ≤ at.place → So leaf) → EachTreeAt order nodes at depth So
+  pub at_leaf : Leads nodes at None → (at ≡ None → So leaf) → EachTreeAt order nodes at depth So
   at_leaf leads empty t fits =
       let P : Tree K → Type 0 = λ u. Lies nodes at u → So u in
       subst P (sym (leaf_there nodes at t leads fits.lies)) empty fits.lies

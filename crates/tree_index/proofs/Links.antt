@@ -1,9 +1,8 @@
 -- Both sides at once: two parts with one of them changed, and on which side a key belongs.
 -- A key belongs on one side of another at most, so what is found on two sides is found on one.
-use Rattle.std.proofs.Common.{◌≡◌, ℕ, ◌⊎◌, Some, None, Ordering, Less, Equal, Greater, sym, refl, subst, inl, inr, arith}
+use Rattle.std.proofs.Common.{◌≡◌, ℕ, ◌⊎◌, Some, None, Option, Ordering, Less, Equal, Greater, sym, refl, subst, inl, inr}
 use Rattle.index.proofs.Orders.{less_apart, not_both_less}
 use Rattle.keys.specs.Orders.{Total}
-use Rattle.tree_index.specs.declared.link.Link.{Link}
 use Rattle.tree_index.specs.declared.link.Links.{Links}
 use Rattle.tree_index.specs.declared.link.Side.{Side}
 use Rattle.tree_index.specs.declared.link.Side.TheVariants.{Left, Right}
@@ -18,11 +17,11 @@ with_part parts Right x Left = parts Left
 with_part parts Right x Right = x
 
 -- what holds of the new part and of the other old one holds of each
-pub each_part : {X : Type 0} (P : Side → Link → X → Type 0) (links : Links) (parts : Side → X) (side : Side) (link : Link) (x : X) →
+pub each_part : {X : Type 0} (P : Side → Option ℕ → X → Type 0) (links : Links) (parts : Side → X) (side : Side) (link : Option ℕ) (x : X) →
     P side link x → ((s : Side) → (s ≡ side → ⊥) → P s (child links s) (parts s)) → (s : Side) → P s (child (with_child links side link) s) (with_part parts side x s)
 each_part P links parts Left link x new old Left = new
-each_part P links parts Left link x new old Right = old Right (λ e. let z : ◌≡◌ {A = ℕ} 0 1 = cc in omega arith)
-each_part P links parts Right link x new old Left = old Left (λ e. let z : ◌≡◌ {A = ℕ} 0 1 = cc in omega arith)
+each_part P links parts Left link x new old Right = old Right (λ e. cc)
+each_part P links parts Right link x new old Left = old Left (λ e. cc)
 each_part P links parts Right link x new old Right = new
 
 pub new_part : {X : Type 0} (parts : Side → X) (side : Side) (x : X) → x ≡ with_part parts side x side
@@ -31,8 +30,8 @@ new_part parts Right x = refl
 
 pub same_side : (s side : Side) → (s ≡ side) ⊎ (s ≡ side → ⊥)
 same_side Left Left = inl refl
-same_side Left Right = inr (λ e. let z : ◌≡◌ {A = ℕ} 0 1 = cc in omega arith)
-same_side Right Left = inr (λ e. let z : ◌≡◌ {A = ℕ} 0 1 = cc in omega arith)
+same_side Left Right = inr (λ e. cc)
+same_side Right Left = inr (λ e. cc)
 same_side Right Right = inl refl
 
 module _ {K : Type 0} (order : K → K → Ordering) (total : Total order) where
@@ -49,10 +48,10 @@ module _ {K : Type 0} (order : K → K → Ordering) (total : Total order) where
   -- the side that a comparison tells
   pub side_told : (side : Side) (key k : K) (o : Ordering) → Some side ≡ side_of o → o ≡ order key k → On order side key k
   side_told side key k Less e is = let left : Left ≡ side = cc in subst (λ (s : Side). On order s key k) left (sym is)
-  side_told side key k Equal e is = let z : ◌≡◌ {A = ℕ} 0 1 = cc in absurd (omega arith)
+  side_told side key k Equal e is = cc
   side_told side key k Greater e is = let right : Right ≡ side = cc in subst (λ (s : Side). On order s key k) right (total.back key k (sym is))
 
   pub none_told : (key k : K) (o : Ordering) → None ≡ side_of o → o ≡ order key k → key ≡ k
-  none_told key k Less e is = let z : ◌≡◌ {A = ℕ} 0 1 = cc in absurd (omega arith)
+  none_told key k Less e is = cc
   none_told key k Equal e is = total.same key k (sym is)
-  none_told key k Greater e is = let z : ◌≡◌ {A = ℕ} 0 1 = cc in absurd (omega arith)
+  none_told key k Greater e is = cc

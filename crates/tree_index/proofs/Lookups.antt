@@ -1,17 +1,21 @@
 -- Why a lookup answers for the whole tree: on the way down some part of the tree lies at the link, and what answers for
 -- the part answers, finished with the best so far, for the tree. Each turn goes from a fork to the part on which the
--- answer must lie; the way ends at the empty tree, where the answer is none, since no way is longer than there are nodes.
-use Rattle.std.proofs.Common.{◌≡◌, ℕ, suc, ◌+◌, ◌-◌, ◌<◌, ◌≤◌, ◌⊎◌, List, length, Some, None, Option, Ordering, Less, sym, refl, ap, ◌∙◌, subst, inl, inr, arith}
+-- answer must lie, and that part is less high; the way ends at the empty tree, where the answer is none.
+use Rattle.std.proofs.Common.{◌≡◌, ℕ, zero, suc, max, ◌<◌, ◌≤◌, List, length, Some, None, Option, Ordering, Less, sym, refl, ap, ◌∙◌, subst, inl, inr, arith}
+use Rattle.index.proofs.Leasts.{least_found}
 use Rattle.index.proofs.Orders.{less_apart, not_both_less}
+use Rattle.index.proofs.Slots.{number_hit, number_miss}
 use Rattle.index.specs.Ordered.{Beyond, LeastBeyond, least}
 use Rattle.index.specs.Slots.{number_of}
 use Rattle.keys.specs.Orders.{Total}
+use Rattle.std.proofs.Math.Logic.{∥∥₁_elim}
+use Rattle.std.specs.Coded.{Coded, Coded-set, coded_option, coded_ℕ, coded×, le_prop}
 use Rattle.tree_index.proofs.Layouts.{at_fork, at_leaf, part_lower}
 use Rattle.tree_index.proofs.Links.{none_told, one_side, side_apart, side_told}
-use Rattle.tree_index.proofs.Soundness.{sound_fits, sound_least, sound_no_number, sound_number, tree_maps}
-use Rattle.tree_index.specs.declared.link.Link.{Link}
+use Rattle.tree_index.proofs.Soundness.{sound_apart, sound_fits, tree_maps}
 use Rattle.tree_index.specs.declared.link.Side.{Side}
 use Rattle.tree_index.specs.declared.link.Side.TheVariants.{Left, Right}
+use Rattle.std.specs.List.{slice_get}
 use Rattle.tree_index.specs.declared.node.Found.{Found}
 use Rattle.tree_index.specs.declared.node.Node.{Node}
 use Rattle.tree_index.specs.declared.root.Root.{Root}
@@ -37,41 +41,73 @@ or_else None second = second
 or_else (Some x) second = Some x
 
 -- of every tree that fits at the root a part fits at the link, and what answers for the part answers, once finished, for the tree
-abbrev pub OnTheWay : {K A : Type 0} → (K → K → Ordering) → List (Node K) → Link → Link → ℕ → (Tree K → A → Type 0) → (A → A) → Type 0
-OnTheWay {K} {A} order nodes root at depth Answers finish =
-    EachTreeAt order nodes root (length nodes) (λ t. (part : Tree K) × Fits order nodes at part depth × ((a : A) → Answers part a → Answers t (finish a)))
+abbrev pub OnTheWay : {K A : Type 0} → (K → K → Ordering) → List (Node K) → Option ℕ → Option ℕ → (Tree K → A → Type 0) → (A → A) → Type 0
+OnTheWay {K} {A} order nodes root at Answers finish =
+    EachTreeAt order nodes root (length nodes) (λ t. (part : Tree K) × Fits order nodes at part (length nodes) × ((a : A) → Answers part a → Answers t (finish a)))
+
+-- the node that the link leads to, with a key or without
+node_of : {K : Type 0} → List (Node K) → Option ℕ → Option (Node K)
+node_of nodes None = None
+node_of nodes (Some place) = slice_get nodes place
+
+-- one node and what is below it, or nothing
+below : {K : Type 0} → (Option ℕ → ℕ) → Option (Node K) → ℕ
+below reach None = 0
+below reach (Some node) = suc (max (reach node.links.left) (reach node.links.right))
+
+-- the most nodes on one way down from the link, told by so many steps: what is left of a lookup's way
+pub reach : {K : Type 0} → List (Node K) → ℕ → Option ℕ → ℕ
+reach nodes zero at = 0
+reach nodes (suc steps) at = below (reach nodes steps) (node_of nodes at)
+
+-- by as many steps as a tree is high it is the height of the tree
+reach_height : {K : Type 0} (nodes : List (Node K)) (steps : ℕ) (at : Option ℕ) (t : Tree K) → Lies nodes at t → height t ≤ steps → reach nodes steps at ≡ height t
+unfolding reach below node_of
+reach_height nodes zero at leaf lies low = refl
+reach_height nodes (suc steps) at leaf lies low = rw lies
+reach_height nodes zero at (fork parts n k) lies low = absurd (omega arith)
+reach_height nodes (suc steps) at (fork parts n k) lies low =
+    let left : reach nodes steps (child lies.1 Left) ≡ height (parts Left) = reach_height nodes steps (child lies.1 Left) (parts Left) (lies.3 Left) (omega arith) in
+    let right : reach nodes steps (child lies.1 Right) ≡ height (parts Right) = reach_height nodes steps (child lies.1 Right) (parts Right) (lies.3 Right) (omega arith) in
+    ap (λ (l : Option ℕ). below (reach nodes steps) (node_of nodes l)) lies.0 ∙ ap (below (reach nodes steps)) lies.2 ∙ omega arith
 
 module _ {K : Type 0} (order : K → K → Ordering) where
   -- a turn from a fork to the part on a side
-  go_down : {A : Type 0} (Answers : Tree K → A → Type 0) (finish up : A → A) (nodes : List (Node K)) (root at link : Link) (found : Found K) (side : Side) (turn : ℕ) →
-      Leads nodes at (Some found) → turn < length nodes → link ≡ child found.links side →
+  go_down : {A : Type 0} (Answers : Tree K → A → Type 0) (finish up : A → A) (nodes : List (Node K)) (root at link : Option ℕ) (found : Found K) (side : Side) →
+      Leads nodes at (Some found) → link ≡ child found.links side →
       ((parts : Side → Tree K) → Ordered order (fork parts found.place found.key) → (a : A) → Answers (parts side) a → Answers (fork parts found.place found.key) (up a)) →
-      OnTheWay order nodes root at (length nodes - turn) Answers finish →
-      OnTheWay order nodes root link (length nodes - (turn + 1)) Answers (λ a. finish (up a))
-  go_down {A} Answers finish up nodes root at link found side turn leads more is step way t fits =
+      OnTheWay order nodes root at Answers finish →
+      OnTheWay order nodes root link Answers (λ a. finish (up a))
+  go_down {A} Answers finish up nodes root at link found side leads is step way t fits =
       let q = way t fits in
-      at_fork order nodes at (length nodes - turn)
+      at_fork order nodes at (length nodes)
       (λ u. ((a : A) → Answers u a → Answers t (finish a)) →
-      (part : Tree K) × Fits order nodes link part (length nodes - (turn + 1)) × ((a : A) → Answers part a → Answers t (finish (up a)))) found leads
+      (part : Tree K) × Fits order nodes link part (length nodes) × ((a : A) → Answers part a → Answers t (finish (up a)))) found leads
       (λ parts o lies low whole. (
         parts side,
         record {
-          lies = subst (λ (l : Link). Lies nodes l (parts side)) (sym is) (lies side);
+          lies = subst (λ (l : Option ℕ). Lies nodes l (parts side)) (sym is) (lies side);
           ordered = (o side).1;
           low = let part : suc (height (parts side)) ≤ height (fork parts found.place found.key) = part_lower parts found.place found.key side in omega arith;
         },
         (λ a h. whole (up a) (step parts o a h)),
       )) q.0 q.1 q.2
 
-  -- what answers for every tree that fits at the link
-  stop_here : {A : Type 0} (Answers : Tree K → A → Type 0) (finish : A → A) (nodes : List (Node K)) (root at : Link) (depth : ℕ) (a : A) →
-      EachTreeAt order nodes at depth (λ t. Answers t a) → OnTheWay order nodes root at depth Answers finish → EachTreeAt order nodes root (length nodes) (λ t. Answers t (finish a))
-  stop_here Answers finish nodes root at depth a here way t fits = let q = way t fits in q.2 a (here q.0 q.1)
+  -- and less of the way is left
+  gets_shorter : (nodes : List (Node K)) (at link : Option ℕ) (found : Found K) (side : Side) → Leads nodes at (Some found) → link ≡ child found.links side →
+      EachTreeAt order nodes at (length nodes) (λ t. reach nodes (length nodes) link < reach nodes (length nodes) at)
+  gets_shorter nodes at link found side leads is t fits =
+      at_fork order nodes at (length nodes) (λ u. reach nodes (length nodes) at ≡ height u → reach nodes (length nodes) link < reach nodes (length nodes) at) found leads
+      (λ parts o lies low whole.
+      let lower : suc (height (parts side)) ≤ height (fork parts found.place found.key) = part_lower parts found.place found.key side in
+      let part : reach nodes (length nodes) (child found.links side) ≡ height (parts side) = reach_height nodes (length nodes) (child found.links side) (parts side) (lies side) (omega arith) in
+      let same : reach nodes (length nodes) link ≡ reach nodes (length nodes) (child found.links side) = ap (reach nodes (length nodes)) is in omega arith)
+      t fits (reach_height nodes (length nodes) at t fits.lies fits.low)
 
-  -- after as many turns as there are nodes, only the empty tree fits
-  at_bottom : (nodes : List (Node K)) (at : Link) (turn : ℕ) (So : Tree K → Type 0) → length nodes ≤ turn → So leaf → EachTreeAt order nodes at (length nodes - turn) So
-  at_bottom nodes at turn So done empty leaf fits = empty
-  at_bottom nodes at turn So done empty (fork parts n k) fits = let low : height (fork parts n k) ≤ length nodes - turn = fits.low in absurd (omega arith)
+  -- what answers for every tree that fits at the link
+  stop_here : {A : Type 0} (Answers : Tree K → A → Type 0) (finish : A → A) (nodes : List (Node K)) (root at : Option ℕ) (a : A) →
+      EachTreeAt order nodes at (length nodes) (λ t. Answers t a) → OnTheWay order nodes root at Answers finish → EachTreeAt order nodes root (length nodes) (λ t. Answers t (finish a))
+  stop_here Answers finish nodes root at a here way t fits = let q = way t fits in q.2 a (here q.0 q.1)
 
 -- the best so far gives way to one that is found later
 best_given_way : {X : Type 0} (x : X) (best a : Option X) → or_else (or_else a (Some x)) best ≡ or_else a (Some x)
@@ -134,52 +170,50 @@ module _ {K : Type 0} (order : K → K → Ordering) (total : Total order) where
       go (Some best) h = (inr (Right, h.0), h.1, λ m x i b l. h.2 m x (right m x i b) b l)
 
 -- the turns and the ends of the two lookups, as the code takes them
-module _ {K : Type 0} (order : K → K → Ordering) (total : Total order) (nodes : List (Node K)) (root : Root) (at : Link) (turn : ℕ) where
-  -- the way is at its end where the link leads to no node, or where there was a turn for every node
-  no_more : (So : Tree K → Type 0) → Leads nodes at None ⊎ (length nodes ≤ turn) → So leaf → EachTreeAt order nodes at (length nodes - turn) So
-  no_more So (inl leads) empty = at_leaf order nodes at (length nodes - turn) So leads (λ past. empty)
-  no_more So (inr done) empty = at_bottom order nodes at turn So done empty
+module _ {K : Type 0} (order : K → K → Ordering) (total : Total order) (nodes : List (Node K)) (root : Root) (at : Option ℕ) where
+  -- each turn leaves less of the way
+  pub turns_end : {A : Type 0} (Answers : Tree K → A → Type 0) (finish : A → A) → OnTheWay order nodes root.link at Answers finish →
+      (found : Found K) → Leads nodes at (Some found) → (side : Side) (link : Option ℕ) → link ≡ child found.links side → ∥ Sound order nodes root ∥₁ →
+      reach nodes (length nodes) link < reach nodes (length nodes) at
+  turns_end Answers finish way found leads side link is sound =
+      ∥∥₁_elim sound le_prop (λ s. let q = way s.tree (sound_fits order total nodes root s) in gets_shorter order nodes at link found side leads is q.0 q.1)
 
-  module _ (key : K) (way : OnTheWay order nodes root.link at (length nodes - turn) (Finds key) (λ a. a)) where
-    pub find_ends : Leads nodes at None ⊎ (length nodes ≤ turn) → Sound order nodes root → None ≡ number_of order (slots_in nodes) key
-    find_ends end s =
-        sound_no_number order total nodes root s key
-        (stop_here order (Finds key) (λ a. a) nodes root.link at (length nodes - turn) None (no_more (λ t. Finds key t None) end (λ n i. i)) way s.tree (sound_fits order total nodes root s))
+  module _ (key : K) (way : OnTheWay order nodes root.link at (Finds key) (λ a. a)) where
+    pub find_ends : Leads nodes at None → ∥ Sound order nodes root ∥₁ → None ≡ number_of order (slots_in nodes) key
+    find_ends leads sound = ∥∥₁_elim sound (Coded-set (coded_option coded_ℕ) _ _) (λ s.
+        number_miss order total (slots_in nodes) key (λ n e.
+        stop_here order (Finds key) (λ a. a) nodes root.link at None (at_leaf order nodes at (length nodes) (λ t. Finds key t None) leads (λ past n i. i)) way s.tree (sound_fits order total nodes root s) n (s.all n key e)))
 
     module _ (found : Found K) (leads : Leads nodes at (Some found)) (o : Ordering) (told : o ≡ order key found.key) where
-      pub find_finds : None ≡ side_of o → Sound order nodes root → Some found.place ≡ number_of order (slots_in nodes) key
-      find_finds here s =
-          sound_number order total nodes root s key found.place
-          (stop_here order (Finds key) (λ a. a) nodes root.link at (length nodes - turn) (Some found.place)
-          (at_fork order nodes at (length nodes - turn) (λ t. Finds key t (Some found.place)) found leads
-          (λ parts o' lies low. inl (refl, sym (none_told order total key found.key o here told)))) way s.tree (sound_fits order total nodes root s))
+      pub find_finds : None ≡ side_of o → ∥ Sound order nodes root ∥₁ → Some found.place ≡ number_of order (slots_in nodes) key
+      find_finds here sound = ∥∥₁_elim sound (Coded-set (coded_option coded_ℕ) _ _) (λ s.
+          number_hit order total (slots_in nodes) found.place key (sound_apart order total nodes root s) (tree_maps order total nodes root s found.place key
+          (stop_here order (Finds key) (λ a. a) nodes root.link at (Some found.place)
+          (at_fork order nodes at (length nodes) (λ t. Finds key t (Some found.place)) found leads
+          (λ parts o' lies low. inl (refl, sym (none_told order total key found.key o here told)))) way s.tree (sound_fits order total nodes root s))))
 
-      pub find_turns : (side : Side) (link : Link) → Some side ≡ side_of o → turn < length nodes → link ≡ child found.links side →
-          OnTheWay order nodes root.link link (length nodes - (turn + 1)) (Finds key) (λ a. a)
-      find_turns side link on more is =
-          go_down order (Finds key) (λ a. a) (λ a. a) nodes root.link at link found side turn leads more is
+      pub find_turns : (side : Side) (link : Option ℕ) → Some side ≡ side_of o → link ≡ child found.links side → OnTheWay order nodes root.link link (Finds key) (λ a. a)
+      find_turns side link on is =
+          go_down order (Finds key) (λ a. a) (λ a. a) nodes root.link at link found side leads is
           (λ parts. find_on_side order total side key parts found.place found.key (side_told order total side key found.key o on told)) way
 
-  module _ (given : Option K) (best : Option (K × ℕ)) (way : OnTheWay order nodes root.link at (length nodes - turn) (LeastIn order given) (λ a. or_else a best)) where
-    pub least_ends : Leads nodes at None ⊎ (length nodes ≤ turn) → Sound order nodes root → best ≡ least order given (slots_in nodes)
-    least_ends end s = sound_least order total nodes root s given best (of_slots best
-        (stop_here order (LeastIn order given) (λ a. or_else a best) nodes root.link at (length nodes - turn) None (no_more (λ t. LeastIn order given t None) end (λ n k i b. i)) way s.tree (sound_fits order total nodes root s)))
+  module _ (given : Option K) (best : Option (K × ℕ)) (way : OnTheWay order nodes root.link at (LeastIn order given) (λ a. or_else a best)) where
+    pub least_ends : Coded K → Leads nodes at None → ∥ Sound order nodes root ∥₁ → best ≡ least order given (slots_in nodes)
+    least_ends coded leads sound = ∥∥₁_elim sound (Coded-set (coded_option (coded× coded coded_ℕ)) _ _) (λ s. least_found order total given (slots_in nodes) best (sound_apart order total nodes root s) (of_slots s best
+        (stop_here order (LeastIn order given) (λ a. or_else a best) nodes root.link at None (at_leaf order nodes at (length nodes) (λ t. LeastIn order given t None) leads (λ past n k i b. i)) way s.tree (sound_fits order total nodes root s))))
       where
-        of_slots : (r : Option (K × ℕ)) → LeastIn order given s.tree r → LeastBeyond order given (slots_in nodes) r
-        of_slots None h = λ n k e b. h n k (s.all n k e) b
-        of_slots (Some pair) h = (tree_maps order total nodes root s pair.1 pair.0 h.0, h.1, λ n k e b l. h.2 n k (s.all n k e) b l)
+        of_slots : (s : Sound order nodes root) (r : Option (K × ℕ)) → LeastIn order given s.tree r → LeastBeyond order given (slots_in nodes) r
+        of_slots s None h = λ n k e b. h n k (s.all n k e) b
+        of_slots s (Some pair) h = (tree_maps order total nodes root s pair.1 pair.0 h.0, h.1, λ n k e b l. h.2 n k (s.all n k e) b l)
 
-    module _ (found : Found K) (leads : Leads nodes at (Some found)) (link : Link) (next : Option (K × ℕ)) (more : turn < length nodes) where
-      pub least_left : Beyond order given found.key → link ≡ found.links.left → next ≡ Some (found.key, found.place) →
-          OnTheWay order nodes root.link link (length nodes - (turn + 1)) (LeastIn order given) (λ a. or_else a next)
-      least_left beyond is_link is_next t fits =
-          let q = go_down order (LeastIn order given) (λ a. or_else a best) (λ a. or_else a (Some (found.key, found.place))) nodes root.link at link found Left turn leads more is_link
+    module _ (found : Found K) (leads : Leads nodes at (Some found)) where
+      pub least_left : Beyond order given found.key → OnTheWay order nodes root.link found.links.left (LeastIn order given) (λ a. or_else a (Some (found.key, found.place)))
+      least_left beyond t fits =
+          let q = go_down order (LeastIn order given) (λ a. or_else a best) (λ a. or_else a (Some (found.key, found.place))) nodes root.link at found.links.left found Left leads refl
           (λ parts. least_on_left order total given parts found.place found.key beyond) way t fits in
-          (q.0, q.1, λ a h. subst (LeastIn order given t) (best_given_way (found.key, found.place) best a ∙ ap (or_else a) (sym is_next)) (q.2 a h))
+          (q.0, q.1, λ a h. subst (LeastIn order given t) (best_given_way (found.key, found.place) best a) (q.2 a h))
 
-      pub least_right : (Beyond order given found.key → ⊥) → link ≡ found.links.right → next ≡ best →
-          OnTheWay order nodes root.link link (length nodes - (turn + 1)) (LeastIn order given) (λ a. or_else a next)
-      least_right not_beyond is_link is_next t fits =
-          let q = go_down order (LeastIn order given) (λ a. or_else a best) (λ a. a) nodes root.link at link found Right turn leads more is_link
-          (λ parts. least_on_right order total given parts found.place found.key not_beyond) way t fits in
-          (q.0, q.1, λ a h. subst (LeastIn order given t) (ap (or_else a) (sym is_next)) (q.2 a h))
+      pub least_right : (Beyond order given found.key → ⊥) → OnTheWay order nodes root.link found.links.right (LeastIn order given) (λ a. or_else a best)
+      least_right not_beyond =
+          go_down order (LeastIn order given) (λ a. or_else a best) (λ a. a) nodes root.link at found.links.right found Right leads refl
+          (λ parts. least_on_right order total given parts found.place found.key not_beyond) way

@@ -1,9 +1,7 @@
 -- Lists of nodes: relinking one node leaves every key and every other node as they were, and the slots of a tree are the
 -- keys of its nodes where there are no more nodes than it uses. Each lemma on relinking is an induction over the nodes.
-use Rattle.std.proofs.Common.{◌≡◌, ℕ, zero, suc, ◌<◌, ◌≤◌, min, List, [], ◌∷◌, length, get_or, take, set, replicate, Some, None, sym, refl, ap, ◌∙◌, arith}
-use Rattle.index.proofs.Nth.{nth_map}
-use Rattle.std.proofs.lemmas.List.{get_or-take, length-map, length-take, map-set, take_all}
-use Rattle.std.proofs.lemmas.Option.{slice_get-get_or, slice_get_past}
+use Rattle.std.proofs.Common.{◌≡◌, ℕ, zero, suc, ◌≤◌, min, List, [], ◌∷◌, length, get_or, take, set, Some, sym, refl, ap, ◌∙◌, arith}
+use Rattle.std.proofs.lemmas.List.{length-map, length-take, map-set, take_all}
 use Rattle.std.specs.List.{slice_get}
 use Rattle.tree_index.specs.declared.link.Links.{Links}
 use Rattle.tree_index.specs.declared.node.Node.{Node}
@@ -21,7 +19,7 @@ relinked_past (x ∷ xs) zero links h = absurd (omega arith)
 relinked_past (x ∷ xs) (suc n) links h = ap (λ ys. x ∷ ys) (relinked_past xs n links (omega arith))
 
 pub relinked_same : {K : Type 0} (nodes : List (Node K)) (n : ℕ) (links : Links) (x : Node K) → slice_get nodes n ≡ Some x → slice_get (relinked nodes n links) n ≡ Some (record { key = x.key; links = links })
-relinked_same [] n links x e = let z : ◌≡◌ {A = ℕ} 0 1 = cc in absurd (omega arith)
+relinked_same [] n links x e = cc
 relinked_same {K} (y ∷ ys) zero links x e = let h : y ≡ x = cc in ap (λ (z : Node K). Some (record { key = z.key; links = links })) h
 relinked_same (y ∷ ys) (suc n) links x e = relinked_same ys n links x e
 
@@ -54,30 +52,11 @@ same_node nodes n x y a b = cc
 pub same_key : {K : Type 0} (nodes : List (Node K)) (n : ℕ) (x y : Node K) (j k : K) → slice_get nodes n ≡ Some x → slice_get nodes n ≡ Some y → x.key ≡ Some j → y.key ≡ Some k → j ≡ k
 same_key {K} nodes n x y j k a b p q = let keyed : x.key ≡ y.key = ap (λ (z : Node K). z.key) (same_node nodes n x y a b) in cc
 
--- where the node has no key, no node with a key is
-pub no_key_there : {K : Type 0} (nodes : List (Node K)) (n : ℕ) (x y : Node K) (k : K) → slice_get nodes n ≡ Some x → x.key ≡ None → slice_get nodes n ≡ Some y → y.key ≡ Some k → ⊥
-no_key_there {K} nodes n x y k a p b q = let keyed : x.key ≡ y.key = ap (λ (z : Node K). z.key) (same_node nodes n x y a b) in let z : ◌≡◌ {A = ℕ} 0 1 = cc in omega arith
-
--- a list that holds the same at each place
-pub all_alike : {X : Type 0} (xs : List X) (x : X) → ((n : ℕ) → n < length xs → slice_get xs n ≡ Some x) → xs ≡ replicate (length xs) x
-all_alike [] x h = refl
-all_alike (y ∷ ys) x h =
-    let first : Some y ≡ Some x = h zero (omega arith) in
-    let head : y ≡ x = cc in
-    let tail : ys ≡ replicate (length ys) x = all_alike ys x (λ n l. h (suc n) (omega arith)) in cc
-
 pub slots_whole : {K : Type 0} (nodes : List (Node K)) → length nodes ≤ max_keys → slots_in nodes ≡ keys nodes
 slots_whole nodes room = ap keys (take_all max_keys nodes room)
 
+pub slots_long : {K : Type 0} (nodes : List (Node K)) → length nodes ≤ max_keys → length (slots_in nodes) ≡ length nodes
+slots_long nodes room = ap length (slots_whole nodes room) ∙ length_keys nodes
+
 pub length_slots : {K : Type 0} (nodes : List (Node K)) → length (slots_in nodes) ≡ min max_keys (length nodes)
 length_slots nodes = length_keys (take max_keys nodes) ∙ length-take max_keys nodes
-
--- the slot of a place that is used, and of one that is not
-pub slot_there : {K : Type 0} (nodes : List (Node K)) (place : ℕ) (d : Node K) → place < min (length nodes) max_keys → Some (get_or nodes place d).key ≡ slice_get (slots_in nodes) place
-slot_there {K} nodes place d within =
-    let used : length (take max_keys nodes) ≡ min max_keys (length nodes) = length-take max_keys nodes in
-    let read : get_or (take max_keys nodes) place d ≡ get_or nodes place d = get_or-take max_keys nodes place d (omega arith) in
-    sym (nth_map (λ (node : Node K). node.key) (take max_keys nodes) place _ (slice_get-get_or (take max_keys nodes) place d (omega arith)) ∙ ap (λ (node : Node K). Some node.key) read)
-
-pub slot_past : {K : Type 0} (nodes : List (Node K)) (place : ℕ) → min (length nodes) max_keys ≤ place → None ≡ slice_get (slots_in nodes) place
-slot_past nodes place past = let long : length (slots_in nodes) ≡ min max_keys (length nodes) = length_slots nodes in sym (slice_get_past (slots_in nodes) place (omega arith))

@@ -1,9 +1,7 @@
--- Sides, links and the two links of a node.
--- A link holds the place that it leads to; past the nodes it leads nowhere.
-use Rattle.std.specs.Prelude.{ℕ, cond, Some, None, Option, nat_lt}
+-- Sides, and the two links of a node: each the place of the node that it leads to, or none.
+use Rattle.std.specs.Prelude.{ℕ, Some, None, Option}
 use Rattle.std.specs.declared.cmp.Ordering.TheVariants.{Less, Equal, Greater}
 use Rattle.std.specs.declared.cmp.Ordering.{Ordering}
-use Rattle.tree_index.specs.declared.link.Link.{Link}
 use Rattle.tree_index.specs.declared.link.Links.{Links}
 use Rattle.tree_index.specs.declared.link.Side.{Side}
 use Rattle.tree_index.specs.declared.link.Side.TheVariants.{Left, Right}
@@ -18,20 +16,12 @@ side_of Less = Some Left
 side_of Equal = None
 side_of Greater = Some Right
 
--- past every node of a tree
-abbrev pub nowhere : Link
-nowhere = record { place = 65535 }
-
--- to the node of a number; nowhere where a tree has no such node
-abbrev pub link_to : ℕ → Link
-link_to number = cond (nat_lt number max_keys) (record { place = number }) nowhere
-
 -- the link on a side
-abbrev pub child : Links → Side → Link
+abbrev pub child : Links → Side → Option ℕ
 child links Left = links.left
 child links Right = links.right
 
 -- the links with another one on a side
-abbrev pub with_child : Links → Side → Link → Links
+abbrev pub with_child : Links → Side → Option ℕ → Links
 with_child links Left link = record { left = link; right = links.right }
 with_child links Right link = record { left = links.left; right = link }

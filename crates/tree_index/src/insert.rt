@@ -7,23 +7,20 @@ use crate::node::{Node, node_at, relink};
 use keys::Key;
 
 // Links the new node, which has the key and no children, into the tree at the link, and answers the link to the tree.
+// Nodes, link and depth stay parameters: each turn takes another link and one less, so a struct of them would be made anew each time.
 pub fn insert<K: Key>(nodes: &mut [Node<K>], at: Link, key: K, new: Link, depth: usize) -> Link
     ensures after { Inserts K.Key.order nodes.old nodes.new at key new depth result }
 {
-    match node_at(nodes, at) {
-        None => new,
-        Some(found) => {
-            if depth == 0 {
-                return at;
-            }
-            match Side::of(key.compare(found.key)) {
-                None => at,
-                Some(side) => {
-                    let link = insert(nodes, found.links.child(side), key, new, depth - 1);
-                    relink(nodes, found.place, found.links.with_child(side, link));
-                    at
-                }
-            }
-        }
+    let Some(found) = node_at(nodes, at) else {
+        return new;
+    };
+    if depth == 0 {
+        return at;
     }
+    let Some(side) = Side::of(key.compare(found.key)) else {
+        return at;
+    };
+    let link = insert(nodes, found.links.child(side), key, new, depth - 1);
+    relink(nodes, found.place, found.links.with_child(side, link));
+    at
 }

@@ -4,7 +4,6 @@
 
 mod insert;
 mod link;
-mod lookup;
 mod node;
 mod remove;
 mod root;

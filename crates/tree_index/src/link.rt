@@ -1,6 +1,5 @@
-// Links between nodes: the number of the node that a link leads to, in two bytes, and the two links of a node.
-// A link that leads past the nodes leads nowhere, so one comparison tells that and keeps every read in bounds.
-ghost use Rattle.tree_index.specs.Links.{side_of, child, link_to, nowhere, with_child};
+// Links between nodes: the number of the node that a link leads to, or none; and the two links of a node.
+ghost use Rattle.tree_index.specs.Links.{side_of, child, with_child};
 ghost use Rattle.std.specs.Prelude.{◌≡◌};
 
 use std::cmp::Ordering;
@@ -17,6 +16,7 @@ pub enum Side {
 
 impl Side {
     // On which side of a node a key belongs, by how it compares with the node's key; none where they are equal.
+    // By hand, since TryFrom would make an error of equal, which is an answer like the others.
     pub fn of(ordering: Ordering) -> Option<Side>
         ensures answer { result ≡ side_of ordering }
     {
@@ -28,36 +28,8 @@ impl Side {
     }
 }
 
-// Leads to the node of a number, or nowhere.
-#[derive(Clone, Copy)]
-pub struct Link {
-    place: u16,
-}
-
-impl Link {
-    // past every node of a tree
-    pub const NOWHERE: Link = Link { place: u16::MAX };
-
-    // The link to the node of the number, or nowhere where a tree has no such node.
-    pub fn to(number: usize) -> Link
-        ensures answer { result ≡ link_to number }
-    {
-        if number < MAX_KEYS {
-            Link {
-                place: number as u16,
-            }
-        } else {
-            Link::NOWHERE
-        }
-    }
-
-    // The place that the link leads to.
-    pub fn place(self) -> usize
-        ensures answer { result ≡ self.place }
-    {
-        self.place as usize
-    }
-}
+// The number of the node that it leads to, or none. In two bytes, so that a node is small.
+pub type Link = Option<u16>;
 
 // The links of a node to its children.
 #[derive(Clone, Copy)]
@@ -68,9 +40,9 @@ pub struct Links {
 
 impl Links {
     // no link leads to a node
-    pub const NOWHERE: Links = Links {
-        left: Link::NOWHERE,
-        right: Link::NOWHERE,
+    pub const NONE: Links = Links {
+        left: None,
+        right: None,
     };
 
     // The link on the side.
@@ -88,13 +60,10 @@ impl Links {
         ensures answer { result ≡ with_child self side link }
     {
         match side {
-            Side::Left => Links {
-                left: link,
-                right: self.right,
-            },
+            Side::Left => Links { left: link, ..self },
             Side::Right => Links {
-                left: self.left,
                 right: link,
+                ..self
             },
         }
     }

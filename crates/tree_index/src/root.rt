@@ -14,7 +14,7 @@ pub struct Root {
 impl Root {
     // of a tree without a key
     pub const EMPTY: Root = Root {
-        link: Link::NOWHERE,
+        link: None,
         count: 0,
     };
 

@@ -3,4 +3,4 @@ use Rattle.bucket_index.proofs.chain.seek.Given as goal
 
 -- the link is the one after so many steps, and no cell before it is wanted
 abbrev pub invariant-loop-step : goal.invariant-loop-step
-invariant-loop-step g l = Passed (g.W.Wanted.verdict l.wanted) l.cells l.initial.at l.at l._step
+invariant-loop-step g l = Passed (goal.F-post g l.wanted) l.cells l.initial.at l.at l._step

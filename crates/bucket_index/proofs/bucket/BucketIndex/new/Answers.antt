@@ -1,9 +1,5 @@
-use Rattle.bucket_index.proofs.Soundness.{new_empty, new_sound}
+use Rattle.bucket_index.proofs.Soundness.{new_sound}
 use Rattle.bucket_index.proofs.bucket.BucketIndex.new.Goals as goal
 
-pub returns : goal.returns
-returns c =
-    record {
-      kept = new_sound c.blank.result c.blank.ensures.cells c.blank.ensures.heads c.blank.ensures.count;
-      answer = new_empty c.blank.result c.blank.ensures.cells;
-    }
+pub invariant_of-result : goal.invariant_of-result
+invariant_of-result c = record { sound = ∣ rw (c.blank.ensures.heads, c.blank.ensures.cells, c.blank.ensures.count) new_sound ∣₁ }
