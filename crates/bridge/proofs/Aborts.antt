@@ -1,24 +1,24 @@
 -- An abort is the ledger's: its row names all of the job's drafts, so turning these frees every draft of the job and nothing else.
-use Rattle.std.proofs.Common.{◌≡◌, ℕ, Bool, true, false, cond, eqb, ◌↔◌, List, [], ◌∷◌, ◌++◌, map, get_or, Some, None, fold, filter, Option, Result, Ordering, sym, refl, ap, ◌∙◌, subst, inl, inr, ⊎_elim}
-use lib.ListN.{get_or-map}
+use Rattle.std.proofs.Common.{◌≡◌, ℕ, true, false, List, [], ◌∷◌, ◌++◌, map, get_or, Some, None, Ok, fold, filter, Option, Result, Ordering, sym, refl, ap, ◌∙◌, subst, inl, inr, ⊎_elim}
 use Rattle.std.specs.List.{flat_map, AllByRecursion}
 use Rattle.std.proofs.ByRecursion.{All-weaker}
-use Rattle.std.proofs.lemmas.Bool.{eqb-true, both_ways}
+use Rattle.std.proofs.lemmas.Bool.{false_from_ne_true, both_ways}
 use Rattle.keys.specs.Refusals.{told}
 use Rattle.ledger.specs.declared.call.TicketId.{TicketId}
 use Rattle.ledger.specs.declared.call.Call.TheVariants.{Basic}
 use Rattle.ledger.specs.declared.call.BasicCall.TheVariants.{Abort as AbortCall}
-use Rattle.ledger.specs.declared.answer.Answer.TheVariants.{Done}
+use Rattle.ledger.specs.declared.answer.Granted.TheVariants.{Done}
 use Rattle.ledger.specs.declared.answer.Refusal.{Refusal}
 use Rattle.ledger.specs.declared.place.Place.{Place}
 use Rattle.ledger.specs.declared.place.PlaceState.{PlaceState}
-use Rattle.ledger.specs.declared.place.PlaceState.TheVariants.{Free, Unstamped, Gone, Current, Superseded}
+use Rattle.ledger.specs.declared.place.PlaceState.TheVariants.{Unstamped, Gone}
 use Rattle.ledger.specs.declared.place.PlaceEvent.TheVariants.{Abort}
 use Rattle.ledger.specs.Refusals.{code}
 use Rattle.ledger.specs.Words.{listed}
-use Rattle.ledger.specs.Places.{free, after, key_of, is_draft_of}
-use Rattle.ledger.specs.Control.{jobs_but}
-use Rattle.ledger.specs.Steps.{Granted, place_aborted}
+use Rattle.ledger.specs.Places.{next, free, after, key_of, is_draft_of}
+use Rattle.ledger.specs.Control.{with_jobs, jobs_but}
+use Rattle.ledger.specs.Steps.{GrantedStep, place_aborted}
+use Rattle.ledger.proofs.Runs.{is_open}
 use Rattle.table.specs.declared.row.HeldKey.{HeldKey}
 use Rattle.table.specs.declared.row.Row.{Row}
 use Rattle.table.specs.Lists.{with_ticket, without_ticket}
@@ -27,24 +27,23 @@ use Rattle.table.specs.Views.{View, at, row_number, if_granted, open_job}
 use Rattle.table.specs.Checks.{checked, row_of}
 use Rattle.table.specs.Commits.{turned_at, undone, abort_checks, aborted}
 use Rattle.bridge.specs.Answers.{answer_of, exchange}
-use Rattle.bridge.specs.States.{keys_held, jobs_in, state}
-use Rattle.bridge.specs.Soundness.{Apart, SomeOf, DraftOf, CurrentOf, Names, EntryFits, Rows, Sound}
-use Rattle.bridge.proofs.Apart.{Has, differ, given_kept}
+use Rattle.bridge.specs.States.{keys_held, jobs_in, control, state}
+use Rattle.bridge.specs.Soundness.{Apart, SomeOf, DraftOf, Names, EntryFits, Rows, Sound}
+use Rattle.bridge.proofs.Apart.{Has, given_kept}
 use Rattle.bridge.proofs.Tickets.{others, without_is, kept_others}
-use Rattle.bridge.proofs.Fitting.{SameAt, Unconcerned}
-use Rattle.bridge.proofs.Checks.{keys_of_is, some_mapped, open_row, is_open}
-use Rattle.bridge.proofs.Held.{bool_false, its_entries, its_drafts}
+use Rattle.bridge.proofs.Fitting.{Alike, alike_if, moved_or_not, SameAt, Unconcerned, mapped_at, mapped_same}
+use Rattle.bridge.proofs.Versions.{one_job}
+use Rattle.bridge.proofs.Checks.{keys_of_is, some_mapped, open_row}
+use Rattle.bridge.proofs.Held.{its_entries, its_drafts}
 use Rattle.bridge.proofs.Turning.{turn, turned_length, turned_once, entries_turn, names_apart, same_places}
 use Rattle.bridge.proofs.Closing.{its_keys, closed_jobs, closed_rows}
 use Rattle.bridge.proofs.Outcomes.{Goes, by_checks}
 
 -- a draft carries a key
 pub draft_key : {K : Type 0} (t : ℕ) (p : PlaceState K) → is_draft_of t p ≡ true → (k : K) × DraftOf t k p
-draft_key t Free e = differ cc
 draft_key t (Unstamped k j) e = (k, (e, refl))
 draft_key t (Gone k j) e = (k, (e, refl))
-draft_key t (Current k b) e = differ cc
-draft_key t (Superseded k b f) e = differ cc
+draft_key t _ e = cc
 
 -- the places that the abort of an entry turns
 abbrev drafted : HeldKey → List ℕ
@@ -87,7 +86,7 @@ module _ {K : Type 0} (ps : List (Place K)) (t : ℕ) (es : List HeldKey) (fits 
   pub aborted_is : Apart (keys_held ps es) → ((n : ℕ) (k : K) → DraftOf t k (at ps n) → SomeOf (λ e. e.draft ≡ Some n) es) → fold undone ps es ≡ map (place_aborted t) ps
   aborted_is apart noted = turns ∙ same_places (place_aborted t) ps (fold (turn Abort) ps (flat_map drafted es)) (turned_length Abort (flat_map drafted es) ps)
       (λ n. ⊎_elim
-      (λ x. x.1 ∙ sym (stays n (bool_false (is_draft_of t (at ps n)) (λ e. let k = draft_key t (at ps n) e in x.0 (noted_turned n es (noted n k.0 k.1))))))
+      (λ x. x.1 ∙ sym (stays n (false_from_ne_true (is_draft_of t (at ps n)) (λ e. let k = draft_key t (at ps n) e in x.0 (noted_turned n es (noted n k.0 k.1))))))
       (λ x. x.1 ∙ sym (goes n (turned_draft n es fits x.0)))
       (turned_once Abort refl (flat_map drafted es) ps (names_apart ps t drafted own es fits apart).0 n))
     where
@@ -101,52 +100,34 @@ module _ {K : Type 0} (ps : List (Place K)) (t : ℕ) (es : List HeldKey) (fits 
       goes n e = rw e
 
 module _ {K : Type 0} (t : ℕ) where
-  alike : (p : PlaceState K) (u : ℕ) (k : K) → (u ≡ t → ⊥) → (DraftOf u k p ↔ DraftOf u k (place_aborted t (record { state = p })).state) × (CurrentOf k p ↔ CurrentOf k (place_aborted t (record { state = p })).state)
-  alike Free u k ne = ((λ h. h, λ h. h), (λ h. h, λ h. h))
-  alike (Unstamped q j) u k ne = go (eqb j t) refl
+  alike : (p : PlaceState K) (u : ℕ) (k : K) → (u ≡ t → ⊥) → Alike u k p (place_aborted t (record { state = p })).state
+  alike p u k ne = alike_if p (next p Abort) u k (is_draft_of t p) (λ e. freed p e)
     where
-      go : (c : Bool) → eqb j t ≡ c → (DraftOf u k (Unstamped q j) ↔ DraftOf u k (cond c (after (record { state = Unstamped q j }) Abort) (record { state = Unstamped q j })).state) × (CurrentOf k (Unstamped q j) ↔ CurrentOf k (cond c (after (record { state = Unstamped q j }) Abort) (record { state = Unstamped q j })).state)
-      go true e = ((λ h. absurd (ne (sym (eqb-true j u h.0) ∙ eqb-true j t e)), λ h. differ cc), (λ h. differ cc, λ h. differ cc))
-      go false e = ((λ h. h, λ h. h), (λ h. h, λ h. h))
-  alike (Gone q j) u k ne = go (eqb j t) refl
-    where
-      go : (c : Bool) → eqb j t ≡ c → (DraftOf u k (Gone q j) ↔ DraftOf u k (cond c (after (record { state = Gone q j }) Abort) (record { state = Gone q j })).state) × (CurrentOf k (Gone q j) ↔ CurrentOf k (cond c (after (record { state = Gone q j }) Abort) (record { state = Gone q j })).state)
-      go true e = ((λ h. absurd (ne (sym (eqb-true j u h.0) ∙ eqb-true j t e)), λ h. differ cc), (λ h. differ cc, λ h. differ cc))
-      go false e = ((λ h. h, λ h. h), (λ h. h, λ h. h))
-  alike (Current q b) u k ne = ((λ h. h, λ h. h), (λ h. h, λ h. h))
-  alike (Superseded q b f) u k ne = ((λ h. h, λ h. h), (λ h. h, λ h. h))
-
-  aborted_at : (ps : List (Place K)) (n : ℕ) → at (map (place_aborted t) ps) n ≡ (place_aborted t (record { state = at ps n })).state
-  aborted_at ps n = ap (λ p. p.state) (get_or-map (place_aborted t) ps n free)
+      freed : (p : PlaceState K) → is_draft_of t p ≡ true → Alike u k p (next p Abort)
+      freed (Unstamped q j) e = ((λ h. absurd (ne (one_job t u (Unstamped q j) e h.0)), λ h. cc), (λ h. cc, λ h. cc))
+      freed (Gone q j) e = ((λ h. absurd (ne (one_job t u (Gone q j) e h.0)), λ h. cc), (λ h. cc, λ h. cc))
+      freed _ e = cc
 
   -- other jobs' drafts stay, and this job's are gone
   pub aborted_same : (ps : List (Place K)) (u : ℕ) (k : K) → (u ≡ t → ⊥) → SameAt ps (map (place_aborted t) ps) u k
-  aborted_same ps u k ne n = rw (aborted_at ps n) (alike (at ps n) u k ne)
+  aborted_same ps u k ne = mapped_same (place_aborted t) refl ps u k (λ n. alike (at ps n) u k ne)
 
   none_left : (p : PlaceState K) (k : K) → DraftOf t k (place_aborted t (record { state = p })).state → ⊥
-  none_left Free k h = differ cc
-  none_left (Unstamped q j) k h = go (eqb j t) refl h
+  none_left p k h = ⊎_elim (λ x. freed p x.0 x.1) (λ x. both_ways (is_draft_of t p) x.0 x.1.0) (moved_or_not p (next p Abort) (DraftOf t k) (is_draft_of t p) h)
     where
-      go : (c : Bool) → eqb j t ≡ c → DraftOf t k (cond c (after (record { state = Unstamped q j }) Abort) (record { state = Unstamped q j })).state → ⊥
-      go true e h = differ cc
-      go false e h = both_ways (eqb j t) e h.0
-  none_left (Gone q j) k h = go (eqb j t) refl h
-    where
-      go : (c : Bool) → eqb j t ≡ c → DraftOf t k (cond c (after (record { state = Gone q j }) Abort) (record { state = Gone q j })).state → ⊥
-      go true e h = differ cc
-      go false e h = both_ways (eqb j t) e h.0
-  none_left (Current q b) k h = differ cc
-  none_left (Superseded q b f) k h = differ cc
+      freed : (p : PlaceState K) → is_draft_of t p ≡ true → DraftOf t k (next p Abort) → ⊥
+      freed (Unstamped q j) e h = cc
+      freed _ e h = cc
 
   pub aborted_none : (ps : List (Place K)) (n : ℕ) (k : K) → DraftOf t k (at (map (place_aborted t) ps) n) → ⊥
-  aborted_none ps n k d = none_left (at ps n) k (subst (DraftOf t k) (aborted_at ps n) d)
+  aborted_none ps n k d = none_left (at ps n) k (subst (DraftOf t k) (mapped_at (place_aborted t) refl ps n) d)
 
 module _ {K R : Type 0} (order : K → K → Ordering) (v : View K) (own : List R) (n : ℕ) (s : Sound v) (t : TicketId) where
-  abort_granted : (row : Row) → open_job v t ≡ Some row → Granted order (state v own) (exchange (Basic (AbortCall t)) n Done) (state (aborted v t) own) × Sound (aborted v t)
+  abort_granted : (row : Row) → open_job v t ≡ Some row → GrantedStep order (state v own) (exchange (Basic (AbortCall t)) n (Ok Done)) (state (aborted v t) own) × Sound (aborted v t)
   abort_granted row e = (
     record {
       answer = refl;
-      control = ap (λ js. record { store = v.store; stamp = v.stamp; next = v.next; reports = v.reports; jobs = js }) (subst (λ qs. jobs_in qs (without_ticket row_number t.number v.jobs) ≡ jobs_but t.number (jobs_in v.places v.jobs)) (sym places) (closed_jobs v.places (map (place_aborted t.number) v.places) v.jobs t.number s.jobs.0 s.rows unconcerned back));
+      control = ap (with_jobs (control v)) (subst (λ qs. jobs_in qs (without_ticket row_number t.number v.jobs) ≡ jobs_but t.number (jobs_in v.places v.jobs)) (sym places) (closed_jobs v.places (map (place_aborted t.number) v.places) v.jobs t.number s.jobs.0 s.rows unconcerned back));
       moves = (places, refl);
     },
     record {

@@ -1,13 +1,10 @@
 -- Lists whose elements are all different, and what all or some elements of a list have.
 -- Serves running numbers, and the keys that jobs hold.
-use Rattle.std.proofs.Common.{◌≡◌, ℕ, ◌+◌, ◌<◌, Bool, true, false, cond, ◌⊎◌, List, [], ◌∷◌, ◌++◌, map, filter, sym, refl, ap, subst, inl, inr, ⊎_elim, arith}
-use Rattle.std.specs.List.{flat_map, AllByRecursion}
+use Rattle.std.proofs.Common.{◌≡◌, ℕ, ◌+◌, ◌<◌, Bool, true, false, cond, ◌⊎◌, List, [], ◌∷◌, ◌++◌, map, filter, Some, None, Option, sym, refl, ap, subst, inl, inr, ⊎_elim, arith}
+use Rattle.std.specs.List.{cons_option, flat_map, AllByRecursion}
 use Rattle.std.proofs.ByRecursion.{All-append, All-push, All-weaker}
+use Rattle.ledger.proofs.Finding.{all_append_parts}
 use Rattle.bridge.specs.Soundness.{Apart, SomeOf, GivenOut}
-
--- nothing follows from two different numbers that are equal
-pub differ : {G : Type 0} → ◌≡◌ {A = ℕ} 0 1 → G
-differ z = absurd (omega arith)
 
 -- the list has the element
 abbrev pub Has : {X : Type 0} → X → List X → Type 0
@@ -36,14 +33,14 @@ pub some_right : {X : Type 0} (P : X → Type 0) (xs ys : List X) → SomeOf P y
 some_right P [] ys s = s
 some_right P (x ∷ xs) ys s = inr (some_right P xs ys s)
 
+pub has_behind : {X : Type 0} (x : X) (o : Option X) (xs : List X) → Has x xs → Has x (cons_option o xs)
+has_behind x None xs h = h
+has_behind x (Some y) xs h = inr h
+
 pub some_parts : {X : Type 0} (P : X → Type 0) (xs ys : List X) → SomeOf P (xs ++ ys) → SomeOf P xs ⊎ SomeOf P ys
 some_parts P [] ys s = inr s
 some_parts P (x ∷ xs) ys (inl p) = inl (inl p)
 some_parts P (x ∷ xs) ys (inr s) = ⊎_elim (λ h. inl (inr h)) (λ h. inr h) (some_parts P xs ys s)
-
-pub all_parts : {X : Type 0} (P : X → Type 0) (xs ys : List X) → AllByRecursion P (xs ++ ys) → AllByRecursion P xs × AllByRecursion P ys
-all_parts P [] ys a = (tt, a)
-all_parts P (x ∷ xs) ys a = let i = all_parts P xs ys a.1 in ((a.0, i.0), i.1)
 
 pub not_has : {X : Type 0} (x : X) (xs : List X) → AllByRecursion (λ y. x ≡ y → ⊥) xs → Has x xs → ⊥
 not_has x [] a h = h
@@ -63,7 +60,7 @@ pub apart_parts : {X : Type 0} (xs ys : List X) → Apart (xs ++ ys) → Apart x
 apart_parts [] ys a = (tt, a, tt)
 apart_parts (x ∷ xs) ys a =
     let i = apart_parts xs ys a.1 in
-    let h = all_parts (λ y. x ≡ y → ⊥) xs ys a.0 in
+    let h = all_append_parts (λ y. x ≡ y → ⊥) xs ys a.0 in
     ((h.0, i.0), i.1, (h.1, i.2))
 
 pub apart_join : {X : Type 0} (xs ys : List X) → Apart xs → Apart ys → Off xs ys → Apart (xs ++ ys)
@@ -77,7 +74,7 @@ apart_push x (y ∷ ys) a h = (All-push (λ z. y ≡ z → ⊥) ys x a.0 (λ e. 
 module _ {X Y : Type 0} (f : X → List Y) (p : X → Bool) where
   all_joined_kept : (P : Y → Type 0) (xs : List X) → AllByRecursion P (flat_map f xs) → AllByRecursion P (flat_map f (filter p xs))
   all_joined_kept P [] a = tt
-  all_joined_kept P (x ∷ xs) a = let h = all_parts P (f x) (flat_map f xs) a in go (p x) h (all_joined_kept P xs h.1)
+  all_joined_kept P (x ∷ xs) a = let h = all_append_parts P (f x) (flat_map f xs) a in go (p x) h (all_joined_kept P xs h.1)
     where
       go : (b : Bool) → AllByRecursion P (f x) × AllByRecursion P (flat_map f xs) → AllByRecursion P (flat_map f (filter p xs)) → AllByRecursion P (flat_map f (cond b (x ∷ filter p xs) (filter p xs)))
       go true h i = All-append P (f x) (flat_map f (filter p xs)) h.0 i

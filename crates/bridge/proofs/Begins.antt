@@ -6,7 +6,7 @@ use Rattle.keys.specs.Refusals.{told}
 use Rattle.ledger.specs.declared.call.TicketId.{TicketId}
 use Rattle.ledger.specs.declared.call.Call.TheVariants.{Basic}
 use Rattle.ledger.specs.declared.call.BasicCall.TheVariants.{BeginReport, BeginJob, End}
-use Rattle.ledger.specs.declared.answer.Answer.TheVariants.{Report as Begun, Job as BegunJob, Done}
+use Rattle.ledger.specs.declared.answer.Granted.TheVariants.{Report as Begun, Job as BegunJob, Done}
 use Rattle.ledger.specs.declared.answer.Refusal.{Refusal}
 use Rattle.ledger.specs.Refusals.{code}
 use Rattle.ledger.specs.Limits.{row_entries}

@@ -1,24 +1,26 @@
 -- What a call checks of the table is what the ledger has it check of the store's state: the look-up of tickets, and who holds a key.
 -- These hold of every table; what depends on soundness (drafts, rows, places) is in Held.
-use Rattle.std.proofs.Common.{◌≡◌, ℕ, zero, suc, ◌<◌, Bool, true, false, cond, not, ◌&&◌, ◌||◌, eqb, List, [], ◌∷◌, ◌++◌, length, get_or, is_some, Some, None, Option, Ordering, sym, refl, ap, ◌∙◌, subst, arith}
+use Rattle.std.specs.List.{cons_option}
+use Rattle.std.proofs.Common.{◌≡◌, ℕ, Bool, true, false, cond, not, ◌&&◌, ◌||◌, eqb, List, [], ◌∷◌, is_some, Some, None, Option, Ordering, refl, ap, ◌∙◌}
 use Rattle.std.specs.Option.{option_map}
 use Rattle.std.proofs.lemmas.Bool.{eqb-true, not-false}
-use Rattle.keys.specs.Refusals.{Code, plain}
+use Rattle.keys.specs.Refusals.{Code}
 use Rattle.ledger.specs.declared.call.TicketId.{TicketId}
 use Rattle.ledger.specs.declared.place.Place.{Place}
-use Rattle.ledger.specs.Words.{when, listed, first, any, same}
+use Rattle.ledger.specs.Words.{when, first, any, same}
 use Rattle.ledger.specs.Places.{is_key}
 use Rattle.ledger.specs.Control.{stamp_of, keys_of, job_at, has_key, other_holder}
 use Rattle.ledger.specs.Steps.{told_holder}
+pub use Rattle.ledger.proofs.Checks.{passed as unmet}
 use Rattle.table.specs.declared.row.HeldKey.{HeldKey}
 use Rattle.table.specs.declared.row.Row.{Row}
-use Rattle.table.specs.Lists.{position, with_ticket}
+use Rattle.table.specs.Lists.{with_ticket}
 use Rattle.table.specs.Rows.{entries_of, place_of}
 use Rattle.table.specs.Views.{View, row_number, report_number, open_report, open_job}
 use Rattle.table.specs.Checks.{sent_back as first_refusal}
 use Rattle.table.specs.Holds.{carries_at, holds_key, row_holds, other_holder as holder_among}
+pub use Rattle.table.proofs.Seeing.{position_any, position_none, position_some}
 use Rattle.bridge.specs.States.{key_at, key_held, keys_held, job_in, jobs_in, control}
-use Rattle.bridge.proofs.Apart.{differ}
 use Rattle.bridge.proofs.Tickets.{first_map, look_up}
 
 pub some_mapped : {X Y : Type 0} (f : X → Y) (o : Option X) → is_some (option_map f o) ≡ is_some o
@@ -28,40 +30,6 @@ some_mapped f (Some x) = refl
 pub first_same : {X Y : Type 0} (f g : X → Option Y) → ((x : X) → f x ≡ g x) → (xs : List X) → first f xs ≡ first g xs
 first_same f g h [] = refl
 first_same f g h (x ∷ xs) = rw (h x, first_same f g h xs)
-
--- positions
-pub position_none : {X : Type 0} (test : X → Bool) (xs : List X) → position test xs ≡ None → any test xs ≡ false
-position_none test [] e = refl
-position_none {X} test (x ∷ xs) e = go (test x) refl e (λ e'. position_none test xs e')
-  where
-    rest : (o : Option ℕ) → option_map suc o ≡ None → o ≡ None
-    rest None e = refl
-    rest (Some n) e = differ cc
-
-    go : (b : Bool) → test x ≡ b → cond b (Some zero) (option_map suc (position test xs)) ≡ None → (position test xs ≡ None → any test xs ≡ false) → (b || any test xs) ≡ false
-    go true eb e i = differ cc
-    go false eb e i = i (rest (position test xs) e)
-
-pub position_some : {X : Type 0} (d : X) (test : X → Bool) (xs : List X) (i : ℕ) → position test xs ≡ Some i → (i < length xs) × (test (get_or xs i d) ≡ true)
-position_some d test [] i e = differ cc
-position_some {X} d test (x ∷ xs) i e = go (test x) refl e (position test xs) refl (λ n e'. position_some d test xs n e')
-  where
-    go : (b : Bool) → test x ≡ b → cond b (Some zero) (option_map suc (position test xs)) ≡ Some i → (o : Option ℕ) → position test xs ≡ o → ((n : ℕ) → position test xs ≡ Some n → (n < length xs) × (test (get_or xs n d) ≡ true)) → (i < length (x ∷ xs)) × (test (get_or (x ∷ xs) i d) ≡ true)
-    go true eb e o eo rec = let z : zero ≡ i = cc in subst (λ n. (n < length (x ∷ xs)) × (test (get_or (x ∷ xs) n d) ≡ true)) z (omega arith, eb)
-    go false eb e None eo rec = let z : ◌≡◌ {A = Option ℕ} None (Some i) = sym (ap (option_map suc) eo) ∙ e in differ cc
-    go false eb e (Some n) eo rec =
-        let z : ◌≡◌ {A = Option ℕ} (Some (suc n)) (Some i) = sym (ap (option_map suc) eo) ∙ e in
-        let ei : suc n ≡ i = cc in
-        let h = rec n eo in
-        subst (λ m. (m < length (x ∷ xs)) × (test (get_or (x ∷ xs) m d) ≡ true)) ei (omega (arith, h.0), h.1)
-
-pub position_any : {X : Type 0} (test : X → Bool) (xs : List X) → is_some (position test xs) ≡ any test xs
-position_any test [] = refl
-position_any {X} test (x ∷ xs) = go (test x) (position_any test xs)
-  where
-    go : (b : Bool) → is_some (position test xs) ≡ any test xs → is_some (cond b (Some zero) (option_map suc (position test xs))) ≡ (b || any test xs)
-    go true i = refl
-    go false i = some_mapped suc (position test xs) ∙ i
 
 -- tickets
 in_store : {X Y : Type 0} (f : X → Y) (b : Bool) (o : Option X) → cond b (option_map f o) None ≡ option_map f (cond b o None)
@@ -84,28 +52,19 @@ module _ {K : Type 0} (v : View K) (t : TicketId) where
     where
       go : (b : Bool) → cond b (with_ticket row_number t.number v.jobs) None ≡ Some row → with_ticket row_number t.number v.jobs ≡ Some row
       go true e = e
-      go false e = differ cc
-
--- a call that passes the check of its ticket has an open one
-pub is_open : {X : Type 0} (o : Option X) (rest : List (Option Code)) → first_refusal (when (not (is_some o)) (plain 4) ∷ rest) ≡ None → (x : X) × (o ≡ Some x)
-is_open None rest e = differ cc
-is_open (Some x) rest e = (x, refl)
+      go false e = cc
 
 -- a call that passes all checks passes the first and the rest
 pub passes : (c : Option Code) (cs : List (Option Code)) → first_refusal (c ∷ cs) ≡ None → (c ≡ None) × (first_refusal cs ≡ None)
 passes None cs e = (refl, e)
-passes (Some why) cs e = differ cc
-
-pub unmet : (b : Bool) (why : Code) → when b why ≡ None → b ≡ false
-unmet true why e = differ cc
-unmet false why e = refl
+passes (Some why) cs e = cc
 
 pub shelf_is : (m n : ℕ) → not (eqb m n) ≡ false → m ≡ n
 shelf_is m n e = eqb-true m n (not-false (eqb m n) e)
 
 pub no_holder : (o : Option ℕ) → told_holder o ≡ None → o ≡ None
 no_holder None e = refl
-no_holder (Some t) e = differ cc
+no_holder (Some t) e = cc
 
 -- holds
 module _ {K : Type 0} (order : K → K → Ordering) (ps : List (Place K)) (k : K) where
@@ -117,7 +76,7 @@ module _ {K : Type 0} (order : K → K → Ordering) (ps : List (Place K)) (k : 
   has_key_is [] = refl
   has_key_is (e ∷ es) = one (key_held ps e) (has_key_is es) ∙ rw (holds_is (place_of e))
     where
-      one : (o : Option K) → has_key order k (keys_held ps es) ≡ any (holds_key order ps k) es → has_key order k (listed o ++ keys_held ps es) ≡ (is_key order k o || any (holds_key order ps k) es)
+      one : (o : Option K) → has_key order k (keys_held ps es) ≡ any (holds_key order ps k) es → has_key order k (cons_option o (keys_held ps es)) ≡ (is_key order k o || any (holds_key order ps k) es)
       one None i = i
       one (Some q) i = ap (λ b. same order q k || b) i
 

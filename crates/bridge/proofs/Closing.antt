@@ -1,10 +1,10 @@
 -- A job is closed: the rows of the others stay, and the ledger's jobs are the same but for this one.
 -- Whatever the places become, it is enough that no other row is concerned and that no draft of this job is left.
-use Rattle.std.proofs.Common.{◌≡◌, ℕ, Bool, true, false, cond, not, eqb, List, [], ◌∷◌, ◌++◌, map, Some, None, filter, Option, sym, refl, ◌∙◌, subst, inl, inr}
+use Rattle.std.proofs.Common.{◌≡◌, ℕ, Bool, true, false, cond, not, eqb, List, [], ◌∷◌, map, Some, None, filter, Option, sym, refl, ◌∙◌, subst, inl, inr}
 use Rattle.std.specs.List.{AllByRecursion}
 use Rattle.std.proofs.ByRecursion.{all_kept_by, All-weaker}
 use Rattle.ledger.specs.declared.place.Place.{Place}
-use Rattle.ledger.specs.Words.{or_else, when, listed}
+use Rattle.ledger.specs.Words.{or_else, when}
 use Rattle.ledger.specs.Control.{jobs_but}
 use Rattle.table.specs.declared.row.HeldKey.{HeldKey}
 use Rattle.table.specs.declared.row.Row.{Row}
@@ -13,7 +13,7 @@ use Rattle.table.specs.Rows.{entries_of}
 use Rattle.table.specs.Views.{View, at, row_number}
 use Rattle.bridge.specs.States.{key_at, key_held, keys_held, job_in, jobs_in}
 use Rattle.bridge.specs.Soundness.{Apart, SomeOf, DraftOf, EntryFits, RowFits, Notes, all_keys, Rows, Sound}
-use Rattle.bridge.proofs.Apart.{Has, Off, some_left, some_right, some_map, apart_parts, apart_joined_kept, off_has, kept_map, differ}
+use Rattle.bridge.proofs.Apart.{Has, Off, has_behind, some_left, some_right, some_map, apart_parts, apart_joined_kept, off_has, kept_map}
 use Rattle.bridge.proofs.Tickets.{others, found_one, without_is, with_other}
 use Rattle.bridge.proofs.Fitting.{Unconcerned, rows_same}
 use Rattle.bridge.proofs.Held.{its_entries, its_drafts}
@@ -36,7 +36,7 @@ module _ {K : Type 0} (ps : List (Place K)) where
   -- no other row holds a key of the job's row
   pub rows_off : (t : ℕ) (rows : List Row) (row : Row) → with_ticket row_number t rows ≡ Some row → Apart (all_keys (jobs_in ps rows))
       → AllByRecursion (λ r. (k : K) → Has k (keys_held ps (entries_of r)) → Has k (keys_held ps (entries_of row)) → ⊥) (filter (others row_number t) rows)
-  rows_off t [] row e a = differ cc
+  rows_off t [] row e a = cc
   rows_off t (r ∷ rs) row e a = let p = apart_parts (keys_held ps (entries_of r)) (all_keys (jobs_in ps rs)) a in go (eqb r.ticket t) e p.2 (λ e'. rows_off t rs row e' p.1)
     where
       go : (b : Bool) → or_else (when b r) (with_ticket row_number t rs) ≡ Some row → Off (keys_held ps (entries_of r)) (all_keys (jobs_in ps rs))
@@ -52,11 +52,7 @@ module _ {K : Type 0} (ps : List (Place K)) where
   pub held_has : (k : K) (es : List HeldKey) → SomeOf (λ e. key_held ps e ≡ Some k) es → Has k (keys_held ps es)
   held_has k [] s = s
   held_has k (e ∷ es) (inl h) = rw h (inl refl)
-  held_has k (e ∷ es) (inr s) = more (key_held ps e) (held_has k es s)
-    where
-      more : (o : Option K) → Has k (keys_held ps es) → Has k (listed o ++ keys_held ps es)
-      more None h = h
-      more (Some q) h = inr h
+  held_has k (e ∷ es) (inr s) = has_behind k (key_held ps e) (keys_held ps es) (held_has k es s)
 
 -- the job holds the keys of its drafts
 module _ {K : Type 0} (v : View K) (s : Sound v) (t : ℕ) (row : Row) (found : with_ticket row_number t v.jobs ≡ Some row) where
@@ -68,7 +64,7 @@ module _ {K : Type 0} (v : View K) (s : Sound v) (t : ℕ) (row : Row) (found : 
       (some_map (λ e. e.draft ≡ Some n) (EntryFits v.places t) (λ e. key_held v.places e ≡ Some k) (λ e h f. go e.draft e.current h) (entries_of row) (its_drafts v s t row found n k d) (its_entries v s t row found))
     where
       go : (o c : Option ℕ) → o ≡ Some n → key_at v.places (or_else o c) ≡ Some k
-      go None c e = differ cc
+      go None c e = cc
       go (Some m) c e = let em : m ≡ n = cc in rw em d.1
 
 module _ {K : Type 0} (ps qs : List (Place K)) (jobs : List Row) (t : ℕ) (apart : Apart (map row_number jobs)) (s : Rows ps jobs)

@@ -1,15 +1,13 @@
 -- A commit is the ledger's: it turns the job's drafts and the current versions of the keys that it drafted, and closes the job.
-use Rattle.std.proofs.Common.{◌≡◌, ℕ, ◌+◌, ◌≤◌, Bool, true, false, cond, not, eqb, leb, ◌⊎◌, ◌↔◌, List, [], ◌∷◌, ◌++◌, map, length, get_or, is_some, Some, None, fold, filter, Option, Result, Ordering, sym, refl, ap, ◌∙◌, subst, inl, inr, ⊎_elim, arith}
-use lib.ListN.{get_or-map}
+use Rattle.std.proofs.Common.{◌≡◌, ℕ, ◌+◌, ◌≤◌, Bool, true, false, not, eqb, leb, ◌⊎◌, List, [], ◌∷◌, ◌++◌, map, length, get_or, is_some, Some, None, Ok, fold, filter, Option, Result, Ordering, sym, refl, ap, ◌∙◌, subst, inl, inr, ⊎_elim, arith}
 use Rattle.std.specs.List.{flat_map, AllByRecursion}
-use Rattle.ledger.proofs.Finding.{all_both}
-use Rattle.std.proofs.lemmas.Bool.{eqb-true, eq-eqb, ne_eqb, leb-true, leb-false, both_ways}
+use Rattle.std.proofs.lemmas.Bool.{false_from_ne_true, eq-eqb, ne_eqb, leb-true, leb-false, both_ways}
 use Rattle.keys.specs.Refusals.{plain, told}
 use Rattle.keys.specs.Orders.{Total}
 use Rattle.ledger.specs.declared.call.TicketId.{TicketId}
 use Rattle.ledger.specs.declared.call.Call.TheVariants.{Basic}
 use Rattle.ledger.specs.declared.call.BasicCall.TheVariants.{Commit as CommitCall}
-use Rattle.ledger.specs.declared.answer.Answer.TheVariants.{Stamp}
+use Rattle.ledger.specs.declared.answer.Granted.TheVariants.{Stamp}
 use Rattle.ledger.specs.declared.answer.Refusal.{Refusal}
 use Rattle.ledger.specs.declared.place.Place.{Place}
 use Rattle.ledger.specs.declared.place.PlaceState.{PlaceState}
@@ -19,9 +17,12 @@ use Rattle.ledger.specs.Refusals.{code}
 use Rattle.ledger.specs.Limits.{last_stamp}
 use Rattle.ledger.specs.Words.{listed, when, any}
 use Rattle.ledger.specs.Versions.{has_draft, draft_in}
-use Rattle.ledger.specs.Places.{free, after, key_of, is_draft_of, is_current, is_settled_by}
-use Rattle.ledger.specs.Control.{jobs_but}
-use Rattle.ledger.specs.Steps.{Granted, versions_in, place_settled}
+use Rattle.ledger.specs.Places.{next, free, after, key_of, is_draft_of, is_settled_by}
+use Rattle.ledger.specs.Control.{with_jobs, stamped, jobs_but}
+use Rattle.ledger.specs.Steps.{GrantedStep, versions_in, place_settled}
+use Rattle.ledger.proofs.Finding.{all_both}
+use Rattle.ledger.proofs.Going.{some_place}
+use Rattle.ledger.proofs.Runs.{is_open}
 use Rattle.table.specs.declared.row.HeldKey.{HeldKey}
 use Rattle.table.specs.declared.row.Row.{Row}
 use Rattle.table.specs.Lists.{with_ticket, without_ticket}
@@ -30,48 +31,35 @@ use Rattle.table.specs.Views.{View, at, row_number, if_granted, open_job}
 use Rattle.table.specs.Checks.{checked, row_of, is_unstamped, sent_back as first_refusal}
 use Rattle.table.specs.Commits.{settled, settled_by, commit_checks, committed}
 use Rattle.bridge.specs.Answers.{answer_of, exchange}
-use Rattle.bridge.specs.States.{keys_held, jobs_in, state}
+use Rattle.bridge.specs.States.{keys_held, jobs_in, control, state}
 use Rattle.bridge.specs.Soundness.{Apart, SomeOf, DraftOf, CurrentOf, Names, EntryFits, Rows, Sound}
-use Rattle.bridge.proofs.Apart.{Has, differ, some_left, some_right, some_map, given_kept}
+use Rattle.bridge.proofs.Apart.{Has, some_left, some_right, some_map, given_kept}
 use Rattle.bridge.proofs.Tickets.{others, without_is, kept_others}
-use Rattle.bridge.proofs.Fitting.{SameAt, Unconcerned}
-use Rattle.bridge.proofs.Checks.{keys_of_is, some_mapped, open_row, is_open}
-use Rattle.bridge.proofs.Versions.{found_is, any_at, any_somewhere, is_draft_at, draft_is, draft_true, true_draft}
-use Rattle.bridge.proofs.Held.{bool_false, its_entries, its_drafts}
+use Rattle.bridge.proofs.Fitting.{Alike, alike_if, moved_or_not, SameAt, Unconcerned, mapped_at, mapped_same}
+use Rattle.bridge.proofs.Checks.{keys_of_is, some_mapped, open_row}
+use Rattle.bridge.proofs.Versions.{found_is, any_at, not_both, one_job, is_draft_at, draft_is, draft_true, true_draft}
+use Rattle.bridge.proofs.Held.{its_entries, its_drafts}
 use Rattle.bridge.proofs.Turning.{turn, turned_length, turned_once, entries_turn, names_apart, same_places}
 use Rattle.bridge.proofs.Closing.{its_keys, drafted_held, rows_off, closed_jobs, closed_rows}
 use Rattle.bridge.proofs.Outcomes.{Goes, by_checks}
 
--- no place is a draft and a current version
-not_both : {K : Type 0} (t : ℕ) (p : PlaceState K) → is_draft_of t p ≡ true → is_current p ≡ true → ⊥
-not_both t Free d c = differ cc
-not_both t (Unstamped k j) d c = differ cc
-not_both t (Gone k j) d c = differ cc
-not_both t (Current k b) d c = differ cc
-not_both t (Superseded k b f) d c = differ cc
-
 -- what a commit turns: the job's drafts, and the current versions of the keys that it drafted
 module _ {K : Type 0} (t : ℕ) (written : K → Bool) where
   settled_cases : (p : PlaceState K) → is_settled_by t written p ≡ true → ((k : K) × DraftOf t k p) ⊎ ((k : K) × CurrentOf k p × (written k ≡ true))
-  settled_cases Free e = differ cc
+  settled_cases Free e = cc
   settled_cases (Unstamped k j) e = inl (k, (e, refl))
   settled_cases (Gone k j) e = inl (k, (e, refl))
   settled_cases (Current k b) e = inr (k, (refl, refl), e)
-  settled_cases (Superseded k b f) e = differ cc
+  settled_cases (Superseded k b f) e = cc
 
   draft_settled : (p : PlaceState K) → is_draft_of t p ≡ true → is_settled_by t written p ≡ true
-  draft_settled Free e = differ cc
   draft_settled (Unstamped k j) e = e
   draft_settled (Gone k j) e = e
-  draft_settled (Current k b) e = differ cc
-  draft_settled (Superseded k b f) e = differ cc
+  draft_settled _ e = cc
 
   current_settled : (k : K) (p : PlaceState K) → CurrentOf k p → written k ≡ true → is_settled_by t written p ≡ true
-  current_settled k Free h e = differ cc
-  current_settled k (Unstamped q j) h e = differ cc
-  current_settled k (Gone q j) h e = differ cc
   current_settled k (Current q b) h e = let z : q ≡ k = cc in rw z e
-  current_settled k (Superseded q b f) h e = differ cc
+  current_settled k _ h e = cc
 
 -- the places that the commit of an entry turns: without a draft none, else the current version, if there is one, and the draft
 abbrev settles_by : Option ℕ → Option ℕ → List ℕ
@@ -123,12 +111,12 @@ module _ {K : Type 0} (ps : List (Place K)) (t now : ℕ) (es : List HeldKey) (f
   entry_turns n (e ∷ us) (inr s) = more n us e (inr (entry_turns n us s))
 
   draft_turns : (n : ℕ) (d c : Option ℕ) → d ≡ Some n → Has n (settles_by d c)
-  draft_turns n None c e = differ cc
+  draft_turns n None c e = cc
   draft_turns n (Some d) None e = inl (cc)
   draft_turns n (Some d) (Some c) e = inr (inl (cc))
 
   current_turns : (m n : ℕ) (k q : K) (d c : Option ℕ) → Names (DraftOf t q) ps d → Names (CurrentOf q) ps c → d ≡ Some m → DraftOf t k (at ps m) → CurrentOf k (at ps n) → Has n (settles_by d c)
-  current_turns m n k q None c hd hc e x y = differ cc
+  current_turns m n k q None c hd hc e x y = cc
   current_turns m n k q (Some d) c hd hc e x y =
       let em : d ≡ m = cc in
       let kq : key_of (at ps m) ≡ Some q = subst (λ z. key_of (at ps z) ≡ Some q) em hd.0.1 in
@@ -143,7 +131,7 @@ module _ {K : Type 0} (ps : List (Place K)) (t now : ℕ) (es : List HeldKey) (f
   module _ (written : K → Bool) (some : (k : K) → written k ≡ true → (m : ℕ) × DraftOf t k (at ps m)) (all : (k : K) (m : ℕ) → DraftOf t k (at ps m) → written k ≡ true)
       (noted : (n : ℕ) (k : K) → DraftOf t k (at ps n) → SomeOf (λ e. e.draft ≡ Some n) es) where
     unturned : (n : ℕ) → (Has n (flat_map settles es) → ⊥) → is_settled_by t written (at ps n) ≡ false
-    unturned n h = bool_false (is_settled_by t written (at ps n)) (λ e. ⊎_elim
+    unturned n h = false_from_ne_true (is_settled_by t written (at ps n)) (λ e. ⊎_elim
         (λ x. h (entry_turns n es (some_map (λ e. e.draft ≡ Some n) (EntryFits ps t) (λ e. Has n (settles e)) (λ e z f. draft_turns n e.draft e.current z) es (noted n x.0 x.1) fits)))
         (λ x. let m = some x.0 x.2 in
         h (entry_turns n es (some_map (λ e. e.draft ≡ Some m.0) (EntryFits ps t) (λ e. Has n (settles e)) (λ e z f. current_turns m.0 n x.0 f.key e.draft e.current f.draft f.current z m.1 x.1) es (noted m.0 x.0 m.1) fits)))
@@ -170,81 +158,36 @@ module _ {K : Type 0} (t now : ℕ) (written : K → Bool) where
   abbrev moved : PlaceState K → PlaceState K
   moved p = (place_settled t now written (record { state = p })).state
 
-  abbrev Alike : ℕ → K → PlaceState K → PlaceState K → Type 0
-  Alike u k p q = (DraftOf u k p ↔ DraftOf u k q) × (CurrentOf k p ↔ CurrentOf k q)
-
-  abbrev itself : (u : ℕ) (k : K) (p : PlaceState K) → Alike u k p p
-  itself u k p = ((λ h. h, λ h. h), (λ h. h, λ h. h))
-
   alike : (p : PlaceState K) (u : ℕ) (k : K) → (u ≡ t → ⊥) → written k ≡ false → (DraftOf t k p → written k ≡ true) → Alike u k p (moved p)
-  alike Free u k ne w d = itself u k Free
-  alike (Unstamped q j) u k ne w d = go (eqb j t) refl
+  alike p u k ne w d = alike_if p (next p (Commit now)) u k (is_settled_by t written p) (λ e. turned p e d)
     where
-      go : (c : Bool) → eqb j t ≡ c → Alike u k (Unstamped q j) (cond c (after (record { state = Unstamped q j }) (Commit now)) (record { state = Unstamped q j })).state
-      go true e = ((λ h. absurd (ne (sym (eqb-true j u h.0) ∙ eqb-true j t e)), λ h. differ cc), (λ h. differ cc, λ h. absurd (both_ways (written k) w (d (e, h.1)))))
-      go false e = itself u k (Unstamped q j)
-  alike (Gone q j) u k ne w d = go (eqb j t) refl
-    where
-      go : (c : Bool) → eqb j t ≡ c → Alike u k (Gone q j) (cond c (after (record { state = Gone q j }) (Commit now)) (record { state = Gone q j })).state
-      go true e = ((λ h. absurd (ne (sym (eqb-true j u h.0) ∙ eqb-true j t e)), λ h. differ cc), (λ h. differ cc, λ h. differ cc))
-      go false e = itself u k (Gone q j)
-  alike (Current q b) u k ne w d = go (written q) refl
-    where
-      go : (c : Bool) → written q ≡ c → Alike u k (Current q b) (cond c (after (record { state = Current q b }) (Commit now)) (record { state = Current q b })).state
-      go true e = ((λ h. differ cc, λ h. differ cc), (λ h. let z : q ≡ k = cc in absurd (both_ways (written k) w (subst (λ x. written x ≡ true) z e)), λ h. differ cc))
-      go false e = itself u k (Current q b)
-  alike (Superseded q b f) u k ne w d = itself u k (Superseded q b f)
+      turned : (p : PlaceState K) → is_settled_by t written p ≡ true → (DraftOf t k p → written k ≡ true) → Alike u k p (next p (Commit now))
+      turned (Unstamped q j) e d = ((λ h. absurd (ne (one_job t u (Unstamped q j) e h.0)), λ h. cc), (λ h. cc, λ h. absurd (both_ways (written k) w (d (e, h.1)))))
+      turned (Gone q j) e d = ((λ h. absurd (ne (one_job t u (Gone q j) e h.0)), λ h. cc), (λ h. cc, λ h. cc))
+      turned (Current q b) e d = ((λ h. cc, λ h. cc), (λ h. let z : q ≡ k = cc in absurd (both_ways (written k) w (subst (λ x. written x ≡ true) z e)), λ h. cc))
+      turned _ e d = cc
+
+  -- a place that was turned holds no draft
+  undrafted : (p : PlaceState K) (u : ℕ) (k : K) → is_settled_by t written p ≡ true → DraftOf u k (next p (Commit now)) → ⊥
+  undrafted (Unstamped q j) u k e h = cc
+  undrafted _ u k e h = cc
 
   none_left : (p : PlaceState K) (k : K) → DraftOf t k (moved p) → ⊥
-  none_left Free k h = differ cc
-  none_left (Unstamped q j) k h = go (eqb j t) refl h
-    where
-      go : (c : Bool) → eqb j t ≡ c → DraftOf t k (cond c (after (record { state = Unstamped q j }) (Commit now)) (record { state = Unstamped q j })).state → ⊥
-      go true e h = differ cc
-      go false e h = both_ways (eqb j t) e h.0
-  none_left (Gone q j) k h = go (eqb j t) refl h
-    where
-      go : (c : Bool) → eqb j t ≡ c → DraftOf t k (cond c (after (record { state = Gone q j }) (Commit now)) (record { state = Gone q j })).state → ⊥
-      go true e h = differ cc
-      go false e h = both_ways (eqb j t) e h.0
-  none_left (Current q b) k h = go (written q) h
-    where
-      go : (c : Bool) → DraftOf t k (cond c (after (record { state = Current q b }) (Commit now)) (record { state = Current q b })).state → ⊥
-      go true h = differ cc
-      go false h = differ cc
-  none_left (Superseded q b f) k h = differ cc
+  none_left p k h =
+      ⊎_elim (λ x. undrafted p t k x.0 x.1) (λ x. both_ways (is_settled_by t written p) x.0 (draft_settled t written p x.1.0)) (moved_or_not p (next p (Commit now)) (DraftOf t k) (is_settled_by t written p) h)
 
   -- a draft that is there now was there before
-  draft_back : (p : PlaceState K) (u : ℕ) (k : K) → (u ≡ t → ⊥) → DraftOf u k (moved p) → DraftOf u k p
-  draft_back Free u k ne h = h
-  draft_back (Unstamped q j) u k ne h = go (eqb j t) h
-    where
-      go : (c : Bool) → DraftOf u k (cond c (after (record { state = Unstamped q j }) (Commit now)) (record { state = Unstamped q j })).state → DraftOf u k (Unstamped q j)
-      go true h = differ cc
-      go false h = h
-  draft_back (Gone q j) u k ne h = go (eqb j t) h
-    where
-      go : (c : Bool) → DraftOf u k (cond c (after (record { state = Gone q j }) (Commit now)) (record { state = Gone q j })).state → DraftOf u k (Gone q j)
-      go true h = differ cc
-      go false h = h
-  draft_back (Current q b) u k ne h = go (written q) h
-    where
-      go : (c : Bool) → DraftOf u k (cond c (after (record { state = Current q b }) (Commit now)) (record { state = Current q b })).state → DraftOf u k (Current q b)
-      go true h = differ cc
-      go false h = h
-  draft_back (Superseded q b f) u k ne h = h
-
-  settled_at : (ps : List (Place K)) (n : ℕ) → at (map (place_settled t now written) ps) n ≡ moved (at ps n)
-  settled_at ps n = ap (λ p. p.state) (get_or-map (place_settled t now written) ps n free)
+  draft_back : (p : PlaceState K) (u : ℕ) (k : K) → DraftOf u k (moved p) → DraftOf u k p
+  draft_back p u k h = ⊎_elim (λ x. absurd (undrafted p u k x.0 x.1)) (λ x. x.1) (moved_or_not p (next p (Commit now)) (DraftOf u k) (is_settled_by t written p) h)
 
   pub settled_same : (ps : List (Place K)) (u : ℕ) (k : K) → (u ≡ t → ⊥) → written k ≡ false → ((n : ℕ) → DraftOf t k (at ps n) → written k ≡ true) → SameAt ps (map (place_settled t now written) ps) u k
-  settled_same ps u k ne w d n = rw (settled_at ps n) (alike (at ps n) u k ne w (d n))
+  settled_same ps u k ne w d = mapped_same (place_settled t now written) refl ps u k (λ n. alike (at ps n) u k ne w (d n))
 
   pub settled_back : (ps : List (Place K)) (n u : ℕ) (k : K) → DraftOf u k (at (map (place_settled t now written) ps) n) → DraftOf u k (at ps n) × (u ≡ t → ⊥)
   settled_back ps n u k d =
-      let h : DraftOf u k (moved (at ps n)) = subst (DraftOf u k) (settled_at ps n) d in
+      let h : DraftOf u k (moved (at ps n)) = subst (DraftOf u k) (mapped_at (place_settled t now written) refl ps n) d in
       let ne : u ≡ t → ⊥ = λ z. none_left (at ps n) k (subst (λ x. DraftOf x k (moved (at ps n))) z h) in
-      (draft_back (at ps n) u k ne h, ne)
+      (draft_back (at ps n) u k h, ne)
 
 last_is : (a b : ℕ) → a ≤ b → eqb a b ≡ leb b a
 last_is a b le = go (leb b a) refl
@@ -254,8 +197,8 @@ last_is a b le = go (leb b a) refl
     go false e = ne_eqb a b (λ z. omega (arith, leb-false b a e))
 
 stamps_left : {X : Type 0} (o : Option X) (b : Bool) → first_refusal (when (not (is_some o)) (plain 4) ∷ when b (plain 11) ∷ []) ≡ None → b ≡ false
-stamps_left None b e = differ cc
-stamps_left (Some x) true e = differ cc
+stamps_left None b e = cc
+stamps_left (Some x) true e = cc
 stamps_left (Some x) false e = refl
 
 module _ {K R : Type 0} (order : K → K → Ordering) (tot : Total order) (v : View K) (own : List R) (n : ℕ) (s : Sound v) (long : length own ≡ length v.places) (t : TicketId) where
@@ -269,16 +212,16 @@ module _ {K R : Type 0} (order : K → K → Ordering) (tot : Total order) (v : 
   written_all k m d = written_is k ∙ any_at (is_draft_at order t.number k) v.places m refl (true_draft order tot t.number k (at v.places m) d)
 
   written_some : (k : K) → written k ≡ true → (m : ℕ) × DraftOf t.number k (at v.places m)
-  written_some k e = let h = any_somewhere (is_draft_at order t.number k) v.places (sym (written_is k) ∙ e) in (h.0, draft_true order tot t.number k (at v.places h.0) h.2)
+  written_some k e = let h = some_place (is_draft_at order t.number k) v.places (sym (written_is k) ∙ e) in (h.0, draft_true order tot t.number k (at v.places h.0) h.2)
 
   abbrev after_commit : List (Place K)
   after_commit = map (place_settled t.number (v.stamp + 1) written) v.places
 
-  commit_granted : (row : Row) → open_job v t ≡ Some row → leb last_stamp v.stamp ≡ false → Granted order (state v own) (exchange (Basic (CommitCall t)) n (Stamp (v.stamp + 1))) (state (committed v t) own) × Sound (committed v t)
+  commit_granted : (row : Row) → open_job v t ≡ Some row → leb last_stamp v.stamp ≡ false → GrantedStep order (state v own) (exchange (Basic (CommitCall t)) n (Ok (Stamp (v.stamp + 1)))) (state (committed v t) own) × Sound (committed v t)
   commit_granted row e room = (
     record {
       answer = refl;
-      control = ap (λ js. record { store = v.store; stamp = v.stamp + 1; next = v.next; reports = v.reports; jobs = js }) (subst (λ qs. jobs_in qs (without_ticket row_number t.number v.jobs) ≡ jobs_but t.number (jobs_in v.places v.jobs)) (sym places) (closed_jobs v.places after_commit v.jobs t.number s.jobs.0 s.rows unconcerned (settled_back t.number (v.stamp + 1) written v.places)));
+      control = ap (with_jobs (stamped (control v))) (subst (λ qs. jobs_in qs (without_ticket row_number t.number v.jobs) ≡ jobs_but t.number (jobs_in v.places v.jobs)) (sym places) (closed_jobs v.places after_commit v.jobs t.number s.jobs.0 s.rows unconcerned (settled_back t.number (v.stamp + 1) written v.places)));
       moves = (places, refl);
     },
     record {
@@ -298,7 +241,7 @@ module _ {K R : Type 0} (order : K → K → Ordering) (tot : Total order) (v : 
       unconcerned : AllByRecursion (Unconcerned v.places after_commit) (filter (others row_number t.number) v.jobs)
       unconcerned = all_both (λ r. r.ticket ≡ t.number → ⊥) (λ r. (k : K) → Has k (keys_held v.places (entries_of r)) → Has k (keys_held v.places (entries_of row)) → ⊥) (Unconcerned v.places after_commit)
           (λ r ne off k h. settled_same t.number (v.stamp + 1) written v.places r.ticket k ne
-          (bool_false (written k) (λ w. let m = written_some k w in off k h (drafted_held v s t.number row found m.0 k m.1))) (written_all k))
+          (false_from_ne_true (written k) (λ w. let m = written_some k w in off k h (drafted_held v s t.number row found m.0 k m.1))) (written_all k))
           (filter (others row_number t.number) v.jobs) (kept_others row_number t.number v.jobs) (rows_off v.places t.number v.jobs row found s.rows.apart)
 
   pub commit_goes : (r : Result ℕ Refusal) → told code r ≡ checked (commit_checks v t) (v.stamp + 1) → Goes order v own (Basic (CommitCall t)) n (answer_of (λ x. Stamp x) r) (if_granted r (committed v t) v) own

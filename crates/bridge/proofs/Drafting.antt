@@ -1,16 +1,16 @@
 -- A draft of a job at a key: in the place that its draft has, or in a free one.
 -- Over its own draft nothing moves but record and mark; in a free place one draft is new, and every other stands where it stood.
-use Rattle.std.proofs.Common.{◌≡◌, ℕ, zero, suc, ◌<◌, ◌≤◌, Bool, true, false, cond, ◌⊎◌, ◌↔◌, List, [], ◌∷◌, ◌++◌, map, length, get_or, set, Some, None, Option, Ordering, sym, refl, ap, ◌∙◌, subst, inl, inr, ⊎_elim, arith}
+use Rattle.std.proofs.Common.{◌≡◌, ℕ, zero, suc, ◌<◌, ◌≤◌, Bool, true, false, cond, ◌⊎◌, List, [], ◌∷◌, ◌++◌, map, length, get_or, set, Some, None, Option, Ordering, sym, refl, ap, ◌∙◌, subst, inl, inr, ⊎_elim, arith}
 use Rattle.std.specs.List.{AllByRecursion}
 use Rattle.std.proofs.lemmas.List.{length-set, length-map, get_or-set_same, get_or-set_other}
-use Rattle.std.proofs.lemmas.Bool.{eqb-true, eq-eqb, leb-false, both_ways, cases_eq}
+use Rattle.std.proofs.lemmas.Bool.{eq-eqb, leb-false, both_ways, cases_eq}
 use Rattle.keys.specs.Orders.{Total}
 use Rattle.ledger.specs.declared.place.Place.{Place}
 use Rattle.ledger.specs.declared.place.PlaceState.{PlaceState}
-use Rattle.ledger.specs.declared.place.PlaceState.TheVariants.{Free, Unstamped, Gone, Current, Superseded}
+use Rattle.ledger.specs.declared.place.PlaceState.TheVariants.{Free, Unstamped, Gone}
 use Rattle.ledger.specs.Limits.{row_entries}
 use Rattle.ledger.specs.Words.{any}
-use Rattle.ledger.specs.Places.{free, next, after, is_free, is_draft_of, is_current}
+use Rattle.ledger.specs.Places.{free, next, after, is_free, is_draft_of}
 use Rattle.ledger.specs.Control.{has_key}
 use Rattle.ledger.specs.Steps.{draft_event, place_aged}
 use Rattle.table.specs.declared.row.HeldKey.{HeldKey}
@@ -21,8 +21,9 @@ use Rattle.table.specs.Drafts.{turned}
 use Rattle.table.specs.Ageing.{ready}
 use Rattle.bridge.specs.States.{key_held, keys_held, job_in}
 use Rattle.bridge.specs.Soundness.{Apart, SomeOf, DraftOf, CurrentOf, EntryFits, RowFits}
-use Rattle.bridge.proofs.Apart.{differ, some_left, some_right}
-use Rattle.bridge.proofs.Fitting.{SameAt}
+use Rattle.bridge.proofs.Apart.{some_left, some_right}
+use Rattle.bridge.proofs.Fitting.{Alike, itself, SameAt, unmoved}
+use Rattle.bridge.proofs.Versions.{not_both, one_job}
 use Rattle.bridge.proofs.Ages.{aged_same}
 use Rattle.bridge.proofs.Holding.{more, has_true}
 use Rattle.bridge.proofs.Noting.{one_more, entries_more, entries_set, pushed, put_in}
@@ -32,31 +33,14 @@ alike_through ps rs qs u q a b n = ((λ h. (b n).0.0 ((a n).0.0 h), λ h. (a n).
 
 pub is_free_true : {K : Type 0} (p : PlaceState K) → is_free p ≡ true → p ≡ Free
 is_free_true Free e = refl
-is_free_true (Unstamped k j) e = differ cc
-is_free_true (Gone k j) e = differ cc
-is_free_true (Current k b) e = differ cc
-is_free_true (Superseded k b f) e = differ cc
-
-one_job : {K : Type 0} (t u : ℕ) (p : PlaceState K) → is_draft_of t p ≡ true → is_draft_of u p ≡ true → u ≡ t
-one_job t u Free e f = differ cc
-one_job t u (Unstamped k j) e f = sym (eqb-true j u f) ∙ eqb-true j t e
-one_job t u (Gone k j) e f = sym (eqb-true j u f) ∙ eqb-true j t e
-one_job t u (Current k b) e f = differ cc
-one_job t u (Superseded k b f) e g = differ cc
-
-not_current : {K : Type 0} (t : ℕ) (p : PlaceState K) → is_draft_of t p ≡ true → is_current p ≡ true → ⊥
-not_current t Free d c = differ cc
-not_current t (Unstamped k j) d c = differ cc
-not_current t (Gone k j) d c = differ cc
-not_current t (Current k b) d c = differ cc
-not_current t (Superseded k b f) d c = differ cc
+is_free_true _ e = cc
 
 -- the places that a new draft finds: ageing, if there was any, moved no draft and no current version
 pub ready_same : {K : Type 0} (v : View K) (u : ℕ) (q : K) → SameAt v.places (ready v) u q
 ready_same {K} v u q = go (any (λ p. is_free p.state) v.places)
   where
     go : (b : Bool) → SameAt v.places (cond b v.places (map (place_aged (λ f. true) v.reports) v.places)) u q
-    go true = λ n. ((λ h. h, λ h. h), (λ h. h, λ h. h))
+    go true = unmoved v.places u q
     go false = aged_same (λ f. true) v.reports v.places u q
 
 pub ready_length : {K : Type 0} (v : View K) → length (ready v) ≡ length v.places
@@ -76,20 +60,16 @@ module _ {K R : Type 0} (t : ℕ) (k : K) (d : Option R) where
       go None = (eq-eqb t t refl, refl)
 
   -- the job's own draft stays its draft
-  again : (p : PlaceState K) → is_draft_of t p ≡ true → (u : ℕ) (q : K) → (DraftOf u q p ↔ DraftOf u q (next p (draft_event t k d))) × (CurrentOf q p ↔ CurrentOf q (next p (draft_event t k d)))
+  again : (p : PlaceState K) → is_draft_of t p ≡ true → (u : ℕ) (q : K) → Alike u q p (next p (draft_event t k d))
   again p e u q = go d p e
     where
-      go : (d : Option R) (p : PlaceState K) → is_draft_of t p ≡ true → (DraftOf u q p ↔ DraftOf u q (next p (draft_event t k d))) × (CurrentOf q p ↔ CurrentOf q (next p (draft_event t k d)))
-      go (Some r) Free e = differ cc
+      go : (d : Option R) (p : PlaceState K) → is_draft_of t p ≡ true → Alike u q p (next p (draft_event t k d))
       go (Some r) (Unstamped x j) e = ((λ h. h, λ h. h), (λ h. h, λ h. h))
       go (Some r) (Gone x j) e = ((λ h. h, λ h. h), (λ h. h, λ h. h))
-      go (Some r) (Current x b) e = differ cc
-      go (Some r) (Superseded x b f) e = differ cc
-      go None Free e = differ cc
       go None (Unstamped x j) e = ((λ h. h, λ h. h), (λ h. h, λ h. h))
       go None (Gone x j) e = ((λ h. h, λ h. h), (λ h. h, λ h. h))
-      go None (Current x b) e = differ cc
-      go None (Superseded x b f) e = differ cc
+      go (Some r) _ e = cc
+      go None _ e = cc
 
   module _ (ps : List (Place K)) (n : ℕ) (inside : n < length ps) where
     here : at (turned (draft_event t k d) n ps) n ≡ next (at ps n) (draft_event t k d)
@@ -101,8 +81,8 @@ module _ {K R : Type 0} (t : ℕ) (k : K) (d : Option R) where
     -- over the job's own draft
     pub own_same : is_draft_of t (at ps n) ≡ true → (u : ℕ) (q : K) → SameAt ps (turned (draft_event t k d) n ps) u q
     own_same e u q m = ⊎_elim
-        (λ z. subst (λ x. (DraftOf u q (at ps x) ↔ DraftOf u q (at (turned (draft_event t k d) n ps) x)) × (CurrentOf q (at ps x) ↔ CurrentOf q (at (turned (draft_event t k d) n ps) x))) (sym z) (rw here (again (at ps n) e u q)))
-        (λ ne. rw (there m ne) ((λ h. h, λ h. h), (λ h. h, λ h. h)))
+        (λ z. subst (λ x. Alike u q (at ps x) (at (turned (draft_event t k d) n ps) x)) (sym z) (rw here (again (at ps n) e u q)))
+        (λ ne. rw (there m ne) (itself u q (at ps m)))
         (cases_eq m n)
 
     module _ (empty : at ps n ≡ Free) where
@@ -112,17 +92,17 @@ module _ {K R : Type 0} (t : ℕ) (k : K) (d : Option R) where
       -- in a free place: all stands as before but for this job's draft at this key
       pub fresh_same : (u : ℕ) (q : K) → (u ≡ t → q ≡ k → ⊥) → SameAt ps (turned (draft_event t k d) n ps) u q
       fresh_same u q ne m = ⊎_elim
-          (λ z. subst (λ x. (DraftOf u q (at ps x) ↔ DraftOf u q (at (turned (draft_event t k d) n ps) x)) × (CurrentOf q (at ps x) ↔ CurrentOf q (at (turned (draft_event t k d) n ps) x))) (sym z) (
+          (λ z. subst (λ x. Alike u q (at ps x) (at (turned (draft_event t k d) n ps) x)) (sym z) (
             (
-              λ h. let z : DraftOf u q Free = subst (DraftOf u q) empty h in differ cc,
+              λ h. let z : DraftOf u q Free = subst (DraftOf u q) empty h in cc,
               λ h. absurd (ne (one_job t u (at (turned (draft_event t k d) n ps) n) draft_here.0 h.0) (let e : ◌≡◌ {A = Option K} (Some q) (Some k) = sym h.1 ∙ draft_here.1 in cc)),
             ),
             (
-              λ h. let z : CurrentOf q Free = subst (CurrentOf q) empty h in differ cc,
-              λ h. absurd (not_current t (at (turned (draft_event t k d) n ps) n) draft_here.0 h.0),
+              λ h. let z : CurrentOf q Free = subst (CurrentOf q) empty h in cc,
+              λ h. absurd (not_both t (at (turned (draft_event t k d) n ps) n) draft_here.0 h.0),
             ),
           ))
-          (λ ne. rw (there m ne) ((λ h. h, λ h. h), (λ h. h, λ h. h)))
+          (λ ne. rw (there m ne) (itself u q (at ps m)))
           (cases_eq m n)
 
       -- a draft of this job at this key is the new one or an old one
@@ -193,7 +173,7 @@ module _ {K : Type 0} (order : K → K → Ordering) (tot : Total order) (ps qs 
         };
         its = its;
         holds = job_so (noted (Some i) e row) refl (ap (keys_held qs) entries ∙ p.1);
-        old = λ m s. subst (SomeOf (λ x. x.draft ≡ Some m)) (sym entries) (some_set (λ x. x.draft ≡ Some m) (entries_of row) i no_entry e (λ z. let y : ◌≡◌ {A = Option ℕ} None (Some m) = sym undrafted ∙ z in differ cc) s);
+        old = λ m s. subst (SomeOf (λ x. x.draft ≡ Some m)) (sym entries) (some_set (λ x. x.draft ≡ Some m) (entries_of row) i no_entry e (λ z. let y : ◌≡◌ {A = Option ℕ} None (Some m) = sym undrafted ∙ z in cc) s);
         new = λ m h. subst (SomeOf (λ x. x.draft ≡ Some m)) (sym entries) (some_at (λ x. x.draft ≡ Some m) (entries_of row) i e lt h);
       }
     where

@@ -4,7 +4,7 @@ use Rattle.std.proofs.Common.{◌≡◌, ℕ, zero, suc, ◌<◌, min, Bool, tru
 use Rattle.std.specs.List.{AllByRecursion, slice_get}
 use Rattle.std.proofs.ByRecursion.{All-get_or}
 use Rattle.std.proofs.lemmas.List.{length-take}
-use Rattle.std.proofs.lemmas.Bool.{both_ways}
+use Rattle.std.proofs.lemmas.Bool.{false_from_ne_true, both_ways}
 use Rattle.keys.specs.Orders.{Total}
 use Rattle.ledger.specs.declared.place.Place.{Place}
 use Rattle.ledger.specs.declared.place.PlaceState.{PlaceState}
@@ -25,7 +25,7 @@ use Rattle.table.specs.Reads.{FindsPlace, Sees, record_at}
 use Rattle.table.specs.Holds.{carries_at, holds_key, entry_at, draft_at as row_draft}
 use Rattle.bridge.specs.States.{key_held, keys_held, jobs_in}
 use Rattle.bridge.specs.Soundness.{SomeOf, DraftOf, CurrentOf, Names, EntryFits, RowFits, Notes, Sound}
-use Rattle.bridge.proofs.Apart.{differ, some_map}
+use Rattle.bridge.proofs.Apart.{some_map}
 use Rattle.bridge.proofs.Tickets.{found_one}
 use Rattle.bridge.proofs.Checks.{position_none, position_some, position_any, job_at_is, holds_is, has_key_is}
 use Rattle.bridge.proofs.Versions.{One, any_none, none_any, any_at, below, value_at, records, found_is, found_at, is_draft_at, draft_is, current_is, key_true, true_key, draft_true, true_draft}
@@ -34,10 +34,6 @@ pub nth_some : {X : Type 0} (xs : List X) (n : ℕ) → n < length xs → (x : X
 nth_some [] n lt = absurd (omega arith)
 nth_some (x ∷ xs) zero lt = (x, refl)
 nth_some (x ∷ xs) (suc n) lt = nth_some xs n (omega arith)
-
-pub bool_false : (b : Bool) → (b ≡ true → ⊥) → b ≡ false
-bool_false true h = absurd (h refl)
-bool_false false h = refl
 
 any_some : {X : Type 0} (test : X → Bool) (xs : List X) → SomeOf (λ x. test x ≡ true) xs → any test xs ≡ true
 any_some test [] s = absurd s
@@ -52,7 +48,7 @@ any_some {X} test (x ∷ xs) (inr s) = go (test x) (any_some test xs s)
 module _ {K : Type 0} (test : PlaceState K → Bool) (P : PlaceState K → Type 0) (free_not : test Free ≡ false)
     (to : (p : PlaceState K) → P p → test p ≡ true) (from : (p : PlaceState K) → test p ≡ true → P p) (ps : List (Place K)) where
   pub named_finds : (o : Option ℕ) → Names P ps o → FindsPlace test ps o
-  named_finds None h = none_any test ps (λ n. bool_false (test (at ps n)) (λ e. h n (from (at ps n) e)))
+  named_finds None h = none_any test ps (λ n. false_from_ne_true (test (at ps n)) (λ e. h n (from (at ps n) e)))
   named_finds (Some n) h = (below test ps n free_not (to (at ps n) h.0), to (at ps n) h.0)
 
   pub named_one : (o : Option ℕ) → Names P ps o → One test ps
@@ -60,7 +56,7 @@ module _ {K : Type 0} (test : PlaceState K → Bool) (P : PlaceState K → Type 
   named_one (Some x) h m n em en = h.1 m (from (at ps m) em) ∙ sym (h.1 n (from (at ps n) en))
 
   pub named_any : (o : Option ℕ) → Names P ps o → any (λ p. test p.state) ps ≡ is_some o
-  named_any None h = none_any test ps (λ n. bool_false (test (at ps n)) (λ e. h n (from (at ps n) e)))
+  named_any None h = none_any test ps (λ n. false_from_ne_true (test (at ps n)) (λ e. h n (from (at ps n) e)))
   named_any (Some n) h = any_at test ps n free_not (to (at ps n) h.0)
 
   pub finds_named : (o : Option ℕ) → One test ps → FindsPlace test ps o → Names P ps o
@@ -99,7 +95,7 @@ module _ {K : Type 0} (v : View K) (s : Sound v) (t : ℕ) (row : Row) (found : 
     draft_held n d e h = go e.draft h
       where
         go : (o : Option ℕ) → o ≡ Some n → carries_at order v.places k (or_else o e.current) ≡ true
-        go None eo = differ cc
+        go None eo = cc
         go (Some m) eo = let em : m ≡ n = cc in rw em (true_key order tot (key_of (at v.places n)) k d.1)
 
     -- the draft that the row names at the key is the job's only one there

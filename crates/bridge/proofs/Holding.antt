@@ -8,7 +8,7 @@ use Rattle.keys.specs.Orders.{Total}
 use Rattle.ledger.specs.Words.{when, or_else, same}
 use Rattle.ledger.specs.Control.{Job, has_key, other_holder, holding}
 use Rattle.bridge.specs.Soundness.{Apart, all_keys}
-use Rattle.bridge.proofs.Apart.{Has, Off, some_left, some_right, some_parts, off_has, has_not, apart_parts, apart_join, apart_push, differ}
+use Rattle.bridge.proofs.Apart.{Has, Off, some_left, some_right, some_parts, off_has, has_not, apart_parts, apart_join, apart_push}
 use Rattle.bridge.proofs.Versions.{same_true}
 
 module _ {K : Type 0} (order : K → K → Ordering) (tot : Total order) (k : K) where
@@ -18,7 +18,7 @@ module _ {K : Type 0} (order : K → K → Ordering) (tot : Total order) (k : K)
   has_true (q ∷ qs) (inr h) = or_right (same order q k) (has_key order k qs) (has_true qs h)
 
   pub true_has : (ks : List K) → has_key order k ks ≡ true → Has k ks
-  true_has [] e = differ cc
+  true_has [] e = cc
   true_has (q ∷ qs) e = go (same order q k) refl e (λ e'. true_has qs e')
     where
       go : (b : Bool) → same order q k ≡ b → (b || has_key order k qs) ≡ true → (has_key order k qs ≡ true → Has k qs) → Has k (q ∷ qs)
@@ -28,7 +28,7 @@ module _ {K : Type 0} (order : K → K → Ordering) (tot : Total order) (k : K)
   module _ (t : ℕ) where
     -- the job with one more key, if it did not hold it
     abbrev pub more : Job K → Job K
-    more j = cond (eqb j.ticket t && not (has_key order k j.keys)) (record { ticket = j.ticket; keys = j.keys ++ (k ∷ []) }) j
+    more j = cond (eqb j.ticket t && not (has_key order k j.keys)) (record j { keys = j.keys ++ (k ∷ []) }) j
 
     -- a job that holds the key holds no more by another hold
     pub hold_same : (js : List (Job K)) → AllByRecursion (λ j. j.ticket ≡ t → Has k j.keys) js → holding order t k js ≡ js
@@ -47,7 +47,7 @@ module _ {K : Type 0} (order : K → K → Ordering) (tot : Total order) (k : K)
         go : (b : Bool) → eqb j.ticket t ≡ b → (c : Bool) → has_key order k j.keys ≡ c → or_else (when (not b && c) j.ticket) (other_holder order t k js) ≡ None
             → (other_holder order t k js ≡ None → AllByRecursion (λ j. (j.ticket ≡ t → ⊥) → Has k j.keys → ⊥) js) → AllByRecursion (λ j. (j.ticket ≡ t → ⊥) → Has k j.keys → ⊥) (j ∷ js)
         go true eb c ec e i = (λ ne h. ne (eqb-true j.ticket t eb), i e)
-        go false eb true ec e i = differ cc
+        go false eb true ec e i = cc
         go false eb false ec e i = (λ ne h. both_ways (has_key order k j.keys) ec (has_true j.keys h), i e)
 
     not_among : (js : List (Job K)) → AllByRecursion (λ j. (j.ticket ≡ t → ⊥) → Has k j.keys → ⊥) js → AllByRecursion (λ j. j.ticket ≡ t → ⊥) js → Has k (all_keys js) → ⊥
@@ -68,7 +68,7 @@ module _ {K : Type 0} (order : K → K → Ordering) (tot : Total order) (k : K)
         pushed : (ks : List K) → Has q (ks ++ (k ∷ [])) → Has q ks ⊎ (k ≡ q)
         pushed ks x = ⊎_elim (λ y. inl y) (⊎_elim (λ y. inr y) (λ y. absurd y)) (some_parts (λ y. y ≡ q) ks (k ∷ []) x)
 
-        go : (b : Bool) → Has q ((cond b (record { ticket = j.ticket; keys = j.keys ++ (k ∷ []) }) j).keys ++ all_keys (holding order t k js)) → (Has q (all_keys (holding order t k js)) → Has q (all_keys js) ⊎ (k ≡ q)) → Has q (all_keys (j ∷ js)) ⊎ (k ≡ q)
+        go : (b : Bool) → Has q ((cond b (record j { keys = j.keys ++ (k ∷ []) }) j).keys ++ all_keys (holding order t k js)) → (Has q (all_keys (holding order t k js)) → Has q (all_keys js) ⊎ (k ≡ q)) → Has q (all_keys (j ∷ js)) ⊎ (k ≡ q)
         go true h i = ⊎_elim (λ x. ⊎_elim (λ y. inl (left y)) (λ y. inr y) (pushed j.keys x)) (λ x. later (i x)) (some_parts (λ y. y ≡ q) (j.keys ++ (k ∷ [])) (all_keys (holding order t k js)) h)
         go false h i = ⊎_elim (λ x. inl (left x)) (λ x. later (i x)) (some_parts (λ y. y ≡ q) j.keys (all_keys (holding order t k js)) h)
 
@@ -92,7 +92,7 @@ module _ {K : Type 0} (order : K → K → Ordering) (tot : Total order) (k : K)
             all_weak (x ∷ xs) b = (λ e. absurd (b.0 e), all_weak xs b.1)
 
         here : (j : Job K) (js : List (Job K)) (c : Bool) → has_key order k j.keys ≡ c → Apart j.keys × Apart (all_keys js) × Off j.keys (all_keys js) → (Has k (all_keys js) → ⊥)
-            → Apart ((cond (not c) (record { ticket = j.ticket; keys = j.keys ++ (k ∷ []) }) j).keys ++ all_keys js)
+            → Apart ((cond (not c) (record j { keys = j.keys ++ (k ∷ []) }) j).keys ++ all_keys js)
         here j js true ec p out = apart_join j.keys (all_keys js) p.0 p.1 p.2
         here j js false ec p out = apart_join (j.keys ++ (k ∷ [])) (all_keys js) (apart_push k j.keys p.0 (λ h. both_ways (has_key order k j.keys) ec (has_true j.keys h))) p.1
             (All-push (λ x. AllByRecursion (λ y. x ≡ y → ⊥) (all_keys js)) j.keys k p.2 (has_not k (all_keys js) out))

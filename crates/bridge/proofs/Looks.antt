@@ -1,17 +1,18 @@
 -- A look is the ledger's: what it answers, and that it takes a hold just where it finds a current version of a key that the job does not hold.
-use Rattle.std.proofs.Common.{◌≡◌, ℕ, Bool, true, false, not, ◌&&◌, eqb, List, [], ◌∷◌, length, get_or, is_some, Some, None, Option, Result, Ordering, sym, refl, ap, ◌∙◌, subst, inl, inr, ⊎_elim}
+use Rattle.std.proofs.Common.{◌≡◌, ℕ, Bool, true, false, not, ◌&&◌, eqb, List, [], ◌∷◌, length, get_or, is_some, Some, None, Ok, Option, Result, Ordering, sym, refl, ap, ◌∙◌, subst, inl, inr, ⊎_elim}
 use Rattle.std.proofs.lemmas.Bool.{cases_eq}
 use Rattle.keys.specs.Refusals.{plain, told}
 use Rattle.keys.specs.Orders.{Total}
 use Rattle.ledger.specs.declared.call.TicketId.{TicketId}
 use Rattle.ledger.specs.declared.call.Call.TheVariants.{Basic}
 use Rattle.ledger.specs.declared.call.BasicCall.TheVariants.{Look}
-use Rattle.ledger.specs.declared.answer.Answer.TheVariants.{Record}
+use Rattle.ledger.specs.declared.answer.Granted.TheVariants.{Record}
 use Rattle.ledger.specs.declared.answer.Refusal.{Refusal}
 use Rattle.ledger.specs.Refusals.{code}
 use Rattle.ledger.specs.Versions.{finds_current}
-use Rattle.ledger.specs.Control.{held_if}
-use Rattle.ledger.specs.Steps.{Granted, versions_in}
+use Rattle.ledger.specs.Control.{with_jobs, held_if}
+use Rattle.ledger.specs.Steps.{GrantedStep, versions_in}
+use Rattle.ledger.proofs.Runs.{is_open}
 use Rattle.table.specs.declared.row.HeldKey.{HeldKey}
 use Rattle.table.specs.declared.row.Row.{Row}
 use Rattle.table.specs.Lists.{with_ticket}
@@ -24,11 +25,11 @@ use Rattle.bridge.specs.Answers.{answer_of, exchange}
 use Rattle.bridge.specs.Shelves.{Own}
 use Rattle.bridge.specs.States.{keys_held, control, state}
 use Rattle.bridge.specs.Soundness.{DraftOf, CurrentOf, Names, EntryFits, Sound}
-use Rattle.bridge.proofs.Apart.{Has, differ}
+use Rattle.bridge.proofs.Apart.{Has}
 use Rattle.bridge.proofs.Tickets.{numbers_over, replaced_is}
-use Rattle.bridge.proofs.Fitting.{SameAt}
+use Rattle.bridge.proofs.Fitting.{unmoved}
 use Rattle.bridge.proofs.Versions.{One, any_at, current_true, true_current}
-use Rattle.bridge.proofs.Checks.{position_none, position_any, keys_of_is, open_row, is_open, passes, unmet, shelf_is, no_holder, has_key_is, holder_is}
+use Rattle.bridge.proofs.Checks.{position_none, position_any, keys_of_is, open_row, passes, unmet, shelf_is, no_holder, has_key_is, holder_is}
 use Rattle.bridge.proofs.Held.{finds_named, its_row, its_drafts, draft_names, row_full_is, sees_is, finds_is}
 use Rattle.bridge.proofs.Holding.{true_has}
 use Rattle.bridge.proofs.Noting.{noted_jobs, noted_rows}
@@ -79,7 +80,7 @@ module _ {K R : Type 0} (order : K → K → Ordering) (tot : Total order) (v : 
         has = true_has order tot k (keys_held v.places (entries_of row)) (has_key_is order v.places k (entries_of row) ∙ (sym (position_any (holds_key order v.places k) (entries_of row)) ∙ ap is_some eo))
 
         go : (b : Bool) → control v ≡ held_if order b (control v) t k
-        go true = ap (λ js. record { store = v.store; stamp = v.stamp; next = v.next; reports = v.reports; jobs = js }) (sym (holds_already order tot v s t.number k row found has))
+        go true = ap (with_jobs (control v)) (sym (holds_already order tot v s t.number k row found has))
         go false = refl
 
     module _ (eo : entry_at order v.places k row ≡ None) where
@@ -93,9 +94,6 @@ module _ {K R : Type 0} (order : K → K → Ordering) (tot : Total order) (v : 
       nothing h = (rw (finds_so, h) refl, refl, s)
 
       module _ (alone : holder_among order v.places k t.number v.jobs ≡ None) (room : is_row_full row ≡ false) (n : ℕ) (there : FindsPlace (is_current_of order k) v.places (Some n)) where
-        abbrev itself : (u : ℕ) (q : K) → SameAt v.places v.places u q
-        itself u q = λ m. ((λ h. h, λ h. h), (λ h. h, λ h. h))
-
         abbrev fits : EntryFits v.places t.number (record { draft = None; current = Some n })
         fits = record {
           key = k;
@@ -108,19 +106,19 @@ module _ {K R : Type 0} (order : K → K → Ordering) (tot : Total order) (v : 
         row' = noted None (record { draft = None; current = Some n }) row
 
         noted_so : NotedSo order tot v.places v.places t.number k row row' (record { draft = None; current = Some n })
-        noted_so = noted_more order tot v.places v.places t.number k row (its_row v s t.number row found).0 (its_row v s t.number row found).1 (λ q ne. itself t.number q) (record { draft = None; current = Some n }) fits refl room
+        noted_so = noted_more order tot v.places v.places t.number k row (its_row v s t.number row found).0 (its_row v s t.number row found).1 (λ q ne. unmoved v.places t.number q) (record { draft = None; current = Some n }) fits refl room
             (has_key_is order v.places k (entries_of row) ∙ position_none (holds_key order v.places k) (entries_of row) eo)
 
         newly_held : HeldSo (with_row v row')
         newly_held = (
           rw (finds_so, any_at (is_current_of order k) v.places n refl there.1)
-              (ap (λ js. record { store = v.store; stamp = v.stamp; next = v.next; reports = v.reports; jobs = js }) (noted_jobs order tot v.places v.places v.jobs t.number k row row' found s.jobs.0 s.rows (λ u q ne. itself u q) noted_so.its noted_so.fits noted_so.holds)),
+              (ap (with_jobs (control v)) (noted_jobs order tot v.places v.places v.jobs t.number k row row' found s.jobs.0 s.rows (λ u q ne. unmoved v.places u q) noted_so.its noted_so.fits noted_so.holds)),
           refl,
           record {
             stamp = s.stamp;
             reports = s.reports;
             jobs = rw (replaced_is row_number t.number row' v.jobs noted_so.its s.jobs.0, numbers_over row_number t.number row' v.jobs noted_so.its) s.jobs;
-            rows = noted_rows order tot v.places v.places v.jobs t.number k row row' found s.jobs.0 s.rows (λ u q ne. itself u q) noted_so.its noted_so.fits noted_so.holds
+            rows = noted_rows order tot v.places v.places v.jobs t.number k row row' found s.jobs.0 s.rows (λ u q ne. unmoved v.places u q) noted_so.its noted_so.fits noted_so.holds
                 (holder_is order v.places k t.number v.jobs ∙ alone)
                 (λ m u q h. ⊎_elim (λ z. inr (z, noted_so.old m (its_drafts v s t.number row found m q (subst (λ y. DraftOf y q (at v.places m)) z h)))) (λ ne. inl (h, ne)) (cases_eq u t.number));
           },
@@ -133,7 +131,7 @@ module _ {K R : Type 0} (order : K → K → Ordering) (tot : Total order) (v : 
     held_so place alone room sees = go (entry_at order v.places k row) refl place sees
       where
         full : (b : Bool) → (b && true) ≡ false → b ≡ false
-        full true x = differ cc
+        full true x = cc
         full false x = refl
 
         go : (o : Option ℕ) → entry_at order v.places k row ≡ o → (place : Option ℕ) → Sees order v.places k (row_draft order v.places k row) place → HeldSo (held v row o place)
@@ -160,15 +158,15 @@ module _ {K R : Type 0} (order : K → K → Ordering) (tot : Total order) (v : 
     where
       granted : (a : Option R) → Looks order v w handed t k a → (row : Row) → open_job v t ≡ Some row → length handed ≡ length own → holder_among order v.places k t.number v.jobs ≡ None
           → (not (is_some (entry_at order v.places k (row_of v t))) && is_row_full (row_of v t) && has_current order v.places k) ≡ false
-          → Granted order (state v own) (exchange (Basic (Look t k)) (length handed) (Record a)) (state w own) × Sound w
+          → GrantedStep order (state v own) (exchange (Basic (Look t k)) (length handed) (Ok (Record a))) (state w own) × Sound w
       granted a x row e fits alone room =
           let known : row_of v t ≡ row = rw e in
           let sees : Sees order v.places k (row_draft order v.places k row) x.place = subst (λ y. Sees order v.places k (row_draft order v.places k y) x.place) known x.sees in
           let after : w ≡ held v row (entry_at order v.places k row) x.place = subst (λ y. w ≡ held v y (entry_at order v.places k y) x.place) known x.after in
           let y = held_so one row e x.place alone (subst (λ y. (not (is_some (entry_at order v.places k y)) && is_row_full y && has_current order v.places k) ≡ false) known room) sees in
-          subst (λ z. Granted order (state v own) (exchange (Basic (Look t k)) (length handed) (Record a)) (state z own) × Sound z) (sym after) (
+          subst (λ z. GrantedStep order (state v own) (exchange (Basic (Look t k)) (length handed) (Ok (Record a))) (state z own) × Sound z) (sym after) (
             record {
-              answer = ap Record (x.answers ∙ (ap (λ xs. record_at xs x.place) (mine fits) ∙ sees_is v s t.number row (open_row v t row e) order tot k own long (one k) x.place sees));
+              answer = ap (λ o. Ok (Record o)) (x.answers ∙ (ap (λ xs. record_at xs x.place) (mine fits) ∙ sees_is v s t.number row (open_row v t row e) order tot k own long (one k) x.place sees));
               control = y.0;
               moves = (y.1, refl);
             },

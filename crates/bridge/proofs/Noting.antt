@@ -5,13 +5,12 @@ use lib.Seq.{take-set-lt}
 use Rattle.std.specs.List.{AllByRecursion}
 use Rattle.std.proofs.ByRecursion.{All-push}
 use Rattle.std.proofs.lemmas.List.{take_more_set}
+use Rattle.std.proofs.lemmas.List.Elements.{filter_map-append}
 use Rattle.std.proofs.lemmas.Bool.{eqb-true, eqb-false, leb-false, lt-ltb}
 use Rattle.keys.specs.Orders.{Total}
 use Rattle.ledger.specs.declared.place.Place.{Place}
 use Rattle.ledger.specs.Limits.{row_entries}
-use Rattle.ledger.specs.Words.{listed}
 use Rattle.ledger.specs.Control.{other_holder, holding}
-use Rattle.ledger.proofs.Finding.{joined_append}
 use Rattle.table.specs.declared.row.HeldKey.{HeldKey}
 use Rattle.table.specs.declared.row.Row.{Row}
 use Rattle.table.specs.Lists.{with_ticket, replaced}
@@ -19,7 +18,7 @@ use Rattle.table.specs.Rows.{no_entry, entries_of, is_row_full, noted}
 use Rattle.table.specs.Views.{at, row_number}
 use Rattle.bridge.specs.States.{key_held, keys_held, job_in, jobs_in}
 use Rattle.bridge.specs.Soundness.{Apart, SomeOf, DraftOf, EntryFits, RowFits, Notes, all_keys, Rows}
-use Rattle.bridge.proofs.Apart.{Has, not_has, some_right}
+use Rattle.bridge.proofs.Apart.{Has, has_behind, not_has}
 use Rattle.bridge.proofs.Tickets.{only_one, over, replaced_is, with_over, with_other_over}
 use Rattle.bridge.proofs.Fitting.{SameAt, keys_cons, entry_same, entries_same, row_same}
 use Rattle.bridge.proofs.Held.{entries_length}
@@ -30,7 +29,7 @@ module _ {K : Type 0} (ps : List (Place K)) (row : Row) (f : RowFits ps row) (e 
   few : is_row_full row ≡ false → row.used < row_entries
   few room = leb-false row_entries row.used room
 
-  pub one_more : is_row_full row ≡ false → noted None e row ≡ record { ticket = row.ticket; used = row.used + 1; entries = set row.entries row.used e }
+  pub one_more : is_row_full row ≡ false → noted None e row ≡ record row { used = row.used + 1; entries = set row.entries row.used e }
   one_more room = rw (lt-ltb row.used row_entries (few room))
 
   pub entries_more : is_row_full row ≡ false → entries_of (noted None e row) ≡ entries_of row ++ (e ∷ [])
@@ -52,7 +51,7 @@ module _ {K : Type 0} (ps qs : List (Place K)) (t : ℕ) (k : K) (other : (q : K
   pushed es fits out =
       let i = entries_same ps qs t es fits (λ q h. other q (λ z. out (subst (λ x. Has x (keys_held ps es)) z h))) in (
         All-push (EntryFits qs t) es e i.0 f,
-        joined_append (λ x. listed (key_held qs x)) es (e ∷ []) ∙ (ap (λ ks. ks ++ keys_held qs (e ∷ [])) i.1 ∙ ap (λ ks. keys_held ps es ++ ks) (keys_cons qs e [] k held)),
+        filter_map-append (key_held qs) es (e ∷ []) ∙ (ap (λ ks. ks ++ keys_held qs (e ∷ [])) i.1 ∙ ap (λ ks. keys_held ps es ++ ks) (keys_cons qs e [] k held)),
       )
 
   pub put_in : (es : List HeldKey) (i : ℕ) → i < length es → key_held ps (get_or es i no_entry) ≡ Some k → AllByRecursion (EntryFits ps t) es → Apart (keys_held ps es) → AllByRecursion (EntryFits qs t) (set es i e) × (keys_held qs (set es i e) ≡ keys_held ps es)
@@ -72,7 +71,7 @@ module _ {K : Type 0} (ps qs : List (Place K)) (t : ℕ) (k : K) (other : (q : K
       at_has : (es : List HeldKey) (i : ℕ) → i < length es → key_held ps (get_or es i no_entry) ≡ Some k → Has k (keys_held ps es)
       at_has [] i lt h = absurd (omega arith)
       at_has (x ∷ es) zero lt h = subst (Has k) (sym (keys_cons ps x es k h)) (inl refl)
-      at_has (x ∷ es) (suc i) lt h = some_right (λ y. y ≡ k) (listed (key_held ps x)) (keys_held ps es) (at_has es i (omega arith) h)
+      at_has (x ∷ es) (suc i) lt h = has_behind k (key_held ps x) (keys_held ps es) (at_has es i (omega arith) h)
 
 -- the row is written over
 module _ {K : Type 0} (order : K → K → Ordering) (tot : Total order) (ps qs : List (Place K)) (jobs : List Row) (t : ℕ) (k : K) (row row' : Row)

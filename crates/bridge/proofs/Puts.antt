@@ -7,15 +7,16 @@ use Rattle.keys.specs.Orders.{Total}
 use Rattle.ledger.specs.declared.call.TicketId.{TicketId}
 use Rattle.ledger.specs.declared.call.Call.TheVariants.{Basic}
 use Rattle.ledger.specs.declared.call.BasicCall.TheVariants.{Put, Remove}
-use Rattle.ledger.specs.declared.answer.Answer.TheVariants.{Done}
+use Rattle.ledger.specs.declared.answer.Granted.TheVariants.{Done}
 use Rattle.ledger.specs.declared.answer.Refusal.{Refusal}
 use Rattle.ledger.specs.declared.place.Place.{Place}
 use Rattle.ledger.specs.declared.place.PlaceState.TheVariants.{Free}
 use Rattle.ledger.specs.Refusals.{code}
 use Rattle.ledger.specs.Versions.{has_draft}
 use Rattle.ledger.specs.Calls.{drafts}
-use Rattle.ledger.specs.Control.{holding, held_if}
+use Rattle.ledger.specs.Control.{with_jobs, holding, held_if}
 use Rattle.ledger.specs.Steps.{Moves, versions_in, draft_event, shelved}
+use Rattle.ledger.proofs.Runs.{is_open}
 use Rattle.table.specs.declared.row.HeldKey.{HeldKey}
 use Rattle.table.specs.declared.row.Row.{Row}
 use Rattle.table.specs.Lists.{with_ticket}
@@ -34,7 +35,7 @@ use Rattle.bridge.proofs.Apart.{Has}
 use Rattle.bridge.proofs.Tickets.{only_one, numbers_over, replaced_is}
 use Rattle.bridge.proofs.Fitting.{SameAt, names_same, jobs_stay, rows_stay}
 use Rattle.bridge.proofs.Versions.{One, below, is_draft_at, key_true, true_draft, current_true, true_current}
-use Rattle.bridge.proofs.Checks.{position_some, position_none, keys_of_is, open_row, is_open, passes, shelf_is, unmet, no_holder, holds_is, has_key_is, position_any, holder_is}
+use Rattle.bridge.proofs.Checks.{position_some, position_none, keys_of_is, open_row, passes, shelf_is, unmet, no_holder, holds_is, has_key_is, position_any, holder_is}
 use Rattle.bridge.proofs.Held.{finds_named, its_row, its_drafts, draft_names, drafted_is, row_full_is, looked_is}
 use Rattle.bridge.proofs.Closing.{its_keys, drafted_held}
 use Rattle.bridge.proofs.Holding.{hold_same}
@@ -61,7 +62,7 @@ module _ {K R : Type 0} (order : K → K → Ordering) (tot : Total order) (v : 
 
   own_drafted : (n : ℕ) → row_draft order v.places k row ≡ Some n → Drafted (with_places v (turned (draft_event t.number k d) n v.places)) n
   own_drafted n ed = (
-    ap (λ js. record { store = v.store; stamp = v.stamp; next = v.next; reports = v.reports; jobs = js }) (jobs_stay v.places qs same v.jobs s.rows ∙ sym (holds_already order tot v s t.number k row found (drafted_held v s t.number row found n k named.0))),
+    ap (with_jobs (control v)) (jobs_stay v.places qs same v.jobs s.rows ∙ sym (holds_already order tot v s t.number k row found (drafted_held v s t.number row found n k named.0))),
     (n, (inside, rw has (true_draft order tot t.number k (at v.places n) named.0)), rw has refl, refl),
     record { stamp = s.stamp; reports = s.reports; jobs = s.jobs; rows = rows_stay v.places qs same v.jobs s.rows },
   )
@@ -145,7 +146,7 @@ module _ {K R : Type 0} (order : K → K → Ordering) (tot : Total order) (v : 
 
     pub new_drafted : Drafted (with_places (with_row (with_places v (ready v)) row') qs) n
     new_drafted = (
-      ap (λ js. record { store = v.store; stamp = v.stamp; next = v.next; reports = v.reports; jobs = js }) (noted_jobs order tot v.places qs v.jobs t.number k row row' found s.jobs.0 s.rows other_rows noted_so.its noted_so.fits noted_so.holds),
+      ap (with_jobs (control v)) (noted_jobs order tot v.places qs v.jobs t.number k row row' found s.jobs.0 s.rows other_rows noted_so.its noted_so.fits noted_so.holds),
       (n, (free_there.0, rw has_none free_there.1), rw has_none refl, refl),
       record {
         stamp = s.stamp;

@@ -10,26 +10,25 @@ use Rattle.ledger.specs.Words.{when, first, listed}
 use Rattle.ledger.specs.Versions.{Version, seen_in, current_in}
 use Rattle.ledger.specs.Calls.{Exchange}
 use Rattle.ledger.specs.Steps.{version_in, versions_in, Numbers, Run}
-use Rattle.ledger.proofs.Finding.{found}
+use Rattle.ledger.proofs.Finding.{found, found_when, or_none}
 use Rattle.ledger.proofs.Model.{one_current}
 use Rattle.ledger.proofs.Reached.{reached_sound, reached_lengths}
 use Rattle.table.specs.Views.{View, at}
 use Rattle.table.specs.Checks.{is_current_of}
 use Rattle.table.specs.Reads.{is_seen_of}
 use Rattle.bridge.specs.States.{state}
-use Rattle.bridge.proofs.Apart.{differ}
-use Rattle.bridge.proofs.Versions.{One, first_listed, seen_is, current_is}
+use Rattle.bridge.proofs.Versions.{One, seen_is, current_is}
 use Rattle.bridge.proofs.Ages.{counts_is}
 
 module _ {K : Type 0} (test : PlaceState K → Bool) where
   passes_counts : (ps : List (Place K)) (n : ℕ) → test Free ≡ false → test (at ps n) ≡ true → 1 ≤ count_by (λ p. test p.state) ps
-  passes_counts [] n f e = let z : ◌≡◌ {A = Bool} true false = sym e ∙ f in differ cc
+  passes_counts [] n f e = let z : ◌≡◌ {A = Bool} true false = sym e ∙ f in cc
   passes_counts (p ∷ ps) zero f e = let one : ◌≡◌ {A = ℕ} (cond (test p.state) 1 0) 1 = rw e in omega (arith, sum_by-cons (λ p. cond (test p.state) 1 0) p ps)
   passes_counts (p ∷ ps) (suc n) f e = let i = passes_counts ps n f e in omega (arith, i, sum_by-cons (λ p. cond (test p.state) 1 0) p ps)
 
   -- where at most one is counted, at most one place passes
   pub counted_one : (ps : List (Place K)) → test Free ≡ false → count_by (λ p. test p.state) ps ≤ 1 → One test ps
-  counted_one [] f c m n em en = let z : ◌≡◌ {A = Bool} true false = sym em ∙ f in differ cc
+  counted_one [] f c m n em en = let z : ◌≡◌ {A = Bool} true false = sym em ∙ f in cc
   counted_one (p ∷ ps) f c zero zero em en = refl
   counted_one (p ∷ ps) f c zero (suc n) em en =
       let i = passes_counts ps n f en in
@@ -46,21 +45,17 @@ counts : {K R Y : Type 0} (f : Version K R → Option Y) (test : PlaceState K �
     → (p : PlaceState K) (r : R) → count_by (found f) (listed (version_in p r)) ≡ cond (test p) 1 0
 counts {K} {R} {Y} f test value is p r = go (version_in p r) (is p r)
   where
-    some : (b : Bool) (y : Y) → is_some (when b y) ≡ b
-    some true y = refl
-    some false y = refl
-
     zero_plus : (b : Bool) → 0 + cond b 1 0 ≡ cond {A = ℕ} b 1 0
     zero_plus true = refl
     zero_plus false = refl
 
     none : (b : Bool) → ◌≡◌ {A = Option Y} None (when b (value p r)) → 0 ≡ cond {A = ℕ} b 1 0
-    none true e = differ cc
+    none true e = cc
     none false e = refl
 
     go : (o : Option (Version K R)) → first f (listed o) ≡ when (test p) (value p r) → count_by (found f) (listed o) ≡ cond (test p) 1 0
     go None e = none (test p) e
-    go (Some v) e = ap (λ b. 0 + cond b 1 0) (ap is_some (sym (first_listed f v) ∙ e) ∙ some (test p) (value p r)) ∙ zero_plus (test p)
+    go (Some v) e = ap (λ b. 0 + cond b 1 0) (ap is_some (sym (or_none (f v)) ∙ e) ∙ found_when (test p) (value p r)) ∙ zero_plus (test p)
 
 -- what holds of a table that a run led to
 pub record Reached {K R : Type 0} (order : K → K → Ordering) (v : View K) (own : List R) : Type 0 where

@@ -7,7 +7,6 @@ use Rattle.std.proofs.lemmas.Bool.{eqb-true, eqb-false, eq-eqb, ne_eqb}
 use Rattle.ledger.specs.Words.{when, or_else, first}
 use Rattle.table.specs.Lists.{with_ticket, without_ticket, replaced}
 use Rattle.bridge.specs.Soundness.{Apart}
-use Rattle.bridge.proofs.Apart.{differ}
 
 pub first_map : {X Y Z : Type 0} (g : Y → Option Z) (h : X → Y) (xs : List X) → first g (map h xs) ≡ first (λ x. g (h x)) xs
 first_map g h [] = refl
@@ -25,7 +24,7 @@ module _ {X : Type 0} (number : X → ℕ) where
 
   -- what holds of all holds of the one that was found, and its number is the one that was looked for
   pub found_one : (P : X → Type 0) (t : ℕ) (xs : List X) (x : X) → with_ticket number t xs ≡ Some x → AllByRecursion P xs → P x × (number x ≡ t)
-  found_one P t [] x e a = differ cc
+  found_one P t [] x e a = cc
   found_one P t (y ∷ ys) x e a = go (eqb (number y) t) refl e (λ e'. found_one P t ys x e' a.1)
     where
       go : (b : Bool) → eqb (number y) t ≡ b → or_else (when b y) (with_ticket number t ys) ≡ Some x → (with_ticket number t ys ≡ Some x → P x × (number x ≡ t)) → P x × (number x ≡ t)
@@ -105,7 +104,7 @@ module _ {X : Type 0} (number : X → ℕ) where
       go false eb i = ap (λ ys. number x ∷ ys) i
 
   pub with_over : (t : ℕ) (x y : X) (xs : List X) → number y ≡ t → with_ticket number t xs ≡ Some x → with_ticket number t (map (over t y) xs) ≡ Some y
-  with_over t x y [] e f = differ cc
+  with_over t x y [] e f = cc
   with_over t x y (z ∷ zs) e f = go (eqb (number z) t) refl f (λ f'. with_over t x y zs e f')
     where
       go : (b : Bool) → eqb (number z) t ≡ b → or_else (when b z) (with_ticket number t zs) ≡ Some x → (with_ticket number t zs ≡ Some x → with_ticket number t (map (over t y) zs) ≡ Some y) → or_else (when (eqb (number (cond b y z)) t) (cond b y z)) (with_ticket number t (map (over t y) zs)) ≡ Some y
@@ -122,7 +121,7 @@ module _ {X : Type 0} (number : X → ℕ) where
 
   -- one that is found is found where more follow
   pub with_more : (t : ℕ) (xs ys : List X) (x : X) → with_ticket number t xs ≡ Some x → with_ticket number t (xs ++ ys) ≡ Some x
-  with_more t [] ys x e = differ cc
+  with_more t [] ys x e = cc
   with_more t (z ∷ zs) ys x e = go (eqb (number z) t) e (λ e'. with_more t zs ys x e')
     where
       go : (b : Bool) → or_else (when b z) (with_ticket number t zs) ≡ Some x → (with_ticket number t zs ≡ Some x → with_ticket number t (zs ++ ys) ≡ Some x) → or_else (when b z) (with_ticket number t (zs ++ ys)) ≡ Some x

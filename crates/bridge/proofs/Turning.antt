@@ -1,9 +1,10 @@
 -- A commit and an abort turn one place after another, as the entries of a row name them.
 -- The places are all different, since the keys that the row holds are; so each is turned once, and all others stay.
-use Rattle.std.proofs.Common.{◌≡◌, ℕ, Bool, true, false, eqb, ◌⊎◌, List, [], ◌∷◌, ◌++◌, map, length, get_or, Some, fold, Option, sym, refl, ap, ◌∙◌, subst, inl, inr, ⊎_elim, arith}
+use Rattle.std.proofs.Common.{◌≡◌, ℕ, Bool, true, false, eqb, ◌⊎◌, List, [], ◌∷◌, map, length, get_or, Some, fold, Option, sym, refl, ap, ◌∙◌, subst, inl, inr, ⊎_elim, arith}
 use Rattle.std.specs.List.{flat_map, AllByRecursion}
 use Rattle.std.proofs.ByRecursion.{All-append, All-weaker}
 use Rattle.std.proofs.lemmas.List.{length-set, get_or-set_same, get_or-set_other, get_or_past, length-map, same_lists, get_or-map, get_or_default}
+use Rattle.std.proofs.lemmas.List.Sums.{fold-append}
 use Rattle.std.proofs.lemmas.Bool.{eqb-true, eqb-false, cases_lt}
 use Rattle.ledger.specs.declared.place.Place.{Place}
 use Rattle.ledger.specs.declared.place.PlaceEvent.{PlaceEvent}
@@ -43,15 +44,11 @@ module _ {K : Type 0} (event : PlaceEvent K) (still : after free event ≡ free)
       go false e (inl x) = let ne : n ≡ m → ⊥ = eqb-false n m e in inl (⊎_elim (λ z. ne (sym z)) x.0, x.1 ∙ get_or-set_other ps m n (after (get_or ps m free) event) free ne)
       go false e (inr x) = let ne : n ≡ m → ⊥ = eqb-false n m e in inr (inr x.0, x.1 ∙ ap (λ p. after p event) (get_or-set_other ps m n (after (get_or ps m free) event) free ne))
 
-pub folded_append : {X Y : Type 0} (f : Y → X → Y) (y : Y) (xs zs : List X) → fold f y (xs ++ zs) ≡ fold f (fold f y xs) zs
-folded_append f y [] zs = refl
-folded_append f y (x ∷ xs) zs = folded_append f (f y x) xs zs
-
 -- entries one after the other, where each turns the places that it names
 pub entries_turn : {K : Type 0} (event : PlaceEvent K) (g : List (Place K) → HeldKey → List (Place K)) (names : HeldKey → List ℕ) → ((ps : List (Place K)) (e : HeldKey) → g ps e ≡ fold (turn event) ps (names e))
     → (es : List HeldKey) (ps : List (Place K)) → fold g ps es ≡ fold (turn event) ps (flat_map names es)
 entries_turn event g names is [] ps = refl
-entries_turn event g names is (e ∷ es) ps = entries_turn event g names is es (g ps e) ∙ (ap (λ qs. fold (turn event) qs (flat_map names es)) (is ps e) ∙ sym (folded_append (turn event) ps (names e) (flat_map names es)))
+entries_turn event g names is (e ∷ es) ps = entries_turn event g names is es (g ps e) ∙ (ap (λ qs. fold (turn event) qs (flat_map names es)) (is ps e) ∙ sym (fold-append (turn event) ps (names e) (flat_map names es)))
 
 -- the places that entries name are all different, where those of one entry are and carry its key
 module _ {K : Type 0} (ps : List (Place K)) (t : ℕ) (names : HeldKey → List ℕ)

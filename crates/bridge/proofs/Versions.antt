@@ -4,7 +4,7 @@
 use Rattle.std.proofs.Common.{◌≡◌, ℕ, zero, suc, ◌<◌, Bool, true, false, ◌&&◌, ◌||◌, List, [], ◌∷◌, ◌++◌, length, is_some, Some, None, Option, Ordering, Less, Equal, Greater, sym, refl, ap, ◌∙◌, suc-le-suc, zero-le, arith}
 use Rattle.std.specs.List.{slice_get}
 use Rattle.std.specs.Option.{option_map}
-use Rattle.std.proofs.lemmas.Bool.{and_parts, and_from, or_parts}
+use Rattle.std.proofs.lemmas.Bool.{eqb-true, and_parts, and_from, or_parts}
 use Rattle.keys.specs.Orders.{Total}
 use Rattle.ledger.specs.declared.place.Place.{Place}
 use Rattle.ledger.specs.declared.place.PlaceState.{PlaceState}
@@ -13,18 +13,11 @@ use Rattle.ledger.specs.Words.{when, or_else, listed, first, any, same}
 use Rattle.ledger.specs.Places.{key_of, is_key, carries, is_draft_of, is_current, spans}
 use Rattle.ledger.specs.Versions.{Version, draft, committed, draft_in, current_in, seen_in}
 use Rattle.ledger.specs.Steps.{version_in, versions_in}
+use Rattle.ledger.proofs.Finding.{or_none}
 use Rattle.table.specs.Views.{at}
 use Rattle.table.specs.Checks.{is_unstamped, is_current_of}
 use Rattle.table.specs.Reads.{is_seen_of, FindsPlace, record_at}
 use Rattle.bridge.specs.Soundness.{DraftOf, CurrentOf}
-use Rattle.bridge.proofs.Apart.{differ}
-
-pub first_listed : {X Y : Type 0} (f : X → Option Y) (x : X) → first f (x ∷ []) ≡ f x
-first_listed {X} {Y} f x = go (f x)
-  where
-    go : (o : Option Y) → or_else o None ≡ o
-    go None = refl
-    go (Some y) = refl
 
 -- a test by place: it holds of none, or of one below the length
 module _ {K : Type 0} (test : PlaceState K → Bool) where
@@ -38,7 +31,7 @@ module _ {K : Type 0} (test : PlaceState K → Bool) where
   none_any (p ∷ ps) h = rw (h 0) (none_any ps (λ n. h (suc n)))
 
   pub any_at : (ps : List (Place K)) (n : ℕ) → test Free ≡ false → test (at ps n) ≡ true → any (λ p. test p.state) ps ≡ true
-  any_at [] n f e = let z : ◌≡◌ {A = Bool} true false = sym e ∙ f in differ cc
+  any_at [] n f e = let z : ◌≡◌ {A = Bool} true false = sym e ∙ f in cc
   any_at (p ∷ ps) zero f e = rw e
   any_at (p ∷ ps) (suc n) f e = go (test p.state) (any_at ps n f e)
     where
@@ -46,19 +39,22 @@ module _ {K : Type 0} (test : PlaceState K → Bool) where
       go true i = refl
       go false i = i
 
-  pub any_somewhere : (ps : List (Place K)) → any (λ p. test p.state) ps ≡ true → (n : ℕ) × (n < length ps) × (test (at ps n) ≡ true)
-  any_somewhere [] e = differ cc
-  any_somewhere (p ∷ ps) e = go (test p.state) refl e (λ e'. any_somewhere ps e')
-    where
-      go : (b : Bool) → test p.state ≡ b → (b || any (λ p. test p.state) ps) ≡ true → (any (λ p. test p.state) ps ≡ true → (n : ℕ) × (n < length ps) × (test (at ps n) ≡ true)) → (n : ℕ) × (n < length (p ∷ ps)) × (test (at (p ∷ ps) n) ≡ true)
-      go true eb e i = (0, suc-le-suc zero-le, eb)
-      go false eb e i = let h = i e in (suc h.0, suc-le-suc h.1, h.2)
-
   -- a place that passes is one of the places
   pub below : (ps : List (Place K)) (n : ℕ) → test Free ≡ false → test (at ps n) ≡ true → n < length ps
-  below [] n f e = let z : ◌≡◌ {A = Bool} true false = sym e ∙ f in differ cc
+  below [] n f e = let z : ◌≡◌ {A = Bool} true false = sym e ∙ f in cc
   below (p ∷ ps) zero f e = suc-le-suc zero-le
   below (p ∷ ps) (suc n) f e = suc-le-suc (below ps n f e)
+
+-- no place is a draft and a current version
+pub not_both : {K : Type 0} (t : ℕ) (p : PlaceState K) → is_draft_of t p ≡ true → is_current p ≡ true → ⊥
+not_both t (Superseded k b f) d c = cc
+not_both t _ d c = cc
+
+-- a place is a draft of one job
+pub one_job : {K : Type 0} (t u : ℕ) (p : PlaceState K) → is_draft_of t p ≡ true → is_draft_of u p ≡ true → u ≡ t
+one_job t u (Unstamped k j) e f = sym (eqb-true j u f) ∙ eqb-true j t e
+one_job t u (Gone k j) e f = sym (eqb-true j u f) ∙ eqb-true j t e
+one_job t u _ e f = cc
 
 -- at most one place passes
 abbrev pub One : {K : Type 0} → (PlaceState K → Bool) → List (Place K) → Type 0
@@ -81,7 +77,7 @@ module _ {K R Y : Type 0} (f : Version K R → Option Y) (test : PlaceState K �
     where
       go : (o : Option (Version K R)) → first f (listed o) ≡ when (test p) (value p r) → first f (listed o ++ vs) ≡ or_else (when (test p) (value p r)) (first f vs)
       go None e = ap (λ o. or_else o (first f vs)) e
-      go (Some v) e = ap (λ o. or_else o (first f vs)) (sym (first_listed f v) ∙ e)
+      go (Some v) e = ap (λ o. or_else o (first f vs)) (sym (or_none (f v)) ∙ e)
 
   -- whether it is found
   pub found_is : (ps : List (Place K)) (shelf : List R) → length shelf ≡ length ps → is_some (first f (versions_in ps shelf)) ≡ any (λ p. test p.state) ps
@@ -99,7 +95,7 @@ module _ {K R Y : Type 0} (f : Version K R → Option Y) (test : PlaceState K �
   none_first (p ∷ ps) (r ∷ rs) h = step p.state r (versions_in ps rs) ∙ rw (h 0) (none_first ps rs (λ n. h (suc n)))
 
   one_first : (ps : List (Place K)) (shelf : List R) (n : ℕ) → length shelf ≡ length ps → One test ps → test (at ps n) ≡ true → first f (versions_in ps shelf) ≡ option_map (value (at ps n)) (slice_get shelf n)
-  one_first [] shelf n e one h = let z : ◌≡◌ {A = Bool} true false = sym h ∙ free_not in differ cc
+  one_first [] shelf n e one h = let z : ◌≡◌ {A = Bool} true false = sym h ∙ free_not in cc
   one_first (p ∷ ps) [] n e one h = absurd (omega arith)
   one_first (p ∷ ps) (r ∷ rs) zero e one h = step p.state r (versions_in ps rs) ∙ rw h
   one_first (p ∷ ps) (r ∷ rs) (suc n) e one h = step p.state r (versions_in ps rs) ∙ go (test p.state) refl (one_first ps rs n (omega arith) (one_from test p ps one) h)
@@ -129,18 +125,13 @@ module _ {K : Type 0} (order : K → K → Ordering) where
 
   module _ {R : Type 0} where
     pub draft_is : (t : ℕ) (k : K) (p : PlaceState K) (r : R) → first (draft_in order t k) (listed (version_in p r)) ≡ when (is_draft_at t k p) (when (is_unstamped p) r)
-    draft_is t k Free r = refl
-    draft_is t k (Unstamped q j) r = first_listed (draft_in order t k) (draft j q (Some r))
-    draft_is t k (Gone q j) r = first_listed (draft_in order t k) (draft j q None)
-    draft_is t k (Current q b) r = refl
-    draft_is t k (Superseded q b f) r = refl
+    draft_is t k (Unstamped q j) r = or_none (draft_in order t k (draft j q (Some r)))
+    draft_is t k (Gone q j) r = or_none (draft_in order t k (draft j q None))
+    draft_is t k _ r = refl
 
     pub current_is : (k : K) (p : PlaceState K) (r : R) → first (current_in order k) (listed (version_in p r)) ≡ when (is_current_of order k p) r
-    current_is k Free r = refl
-    current_is k (Unstamped q j) r = refl
-    current_is k (Gone q j) r = refl
-    current_is k (Current q b) r = first_listed (current_in order k) (committed q r b None)
-    current_is k (Superseded q b f) r = refl
+    current_is k (Current q b) r = or_none (current_in order k (committed q r b None))
+    current_is k _ r = refl
 
     swap : (x y : Bool) (r : R) → when (x && y) r ≡ when (y && x) r
     swap true true r = refl
@@ -149,23 +140,21 @@ module _ {K : Type 0} (order : K → K → Ordering) where
     swap false false r = refl
 
     pub seen_is : (s : ℕ) (k : K) (p : PlaceState K) (r : R) → first (seen_in order s k) (listed (version_in p r)) ≡ when (is_seen_of order s k p) r
-    seen_is s k Free r = refl
-    seen_is s k (Unstamped q j) r = refl
-    seen_is s k (Gone q j) r = refl
-    seen_is s k (Current q b) r = first_listed (seen_in order s k) (committed q r b None) ∙ swap (same order q k) (spans b None s) r
-    seen_is s k (Superseded q b f) r = first_listed (seen_in order s k) (committed q r b (Some f)) ∙ swap (same order q k) (spans b (Some f) s) r
+    seen_is s k (Current q b) r = or_none (seen_in order s k (committed q r b None)) ∙ swap (same order q k) (spans b None s) r
+    seen_is s k (Superseded q b f) r = or_none (seen_in order s k (committed q r b (Some f))) ∙ swap (same order q k) (spans b (Some f) s) r
+    seen_is s k _ r = refl
 
   module _ (tot : Total order) where
     pub same_true : (q k : K) → same order q k ≡ true → q ≡ k
     same_true q k e = go (order q k) refl
       where
         go : (o : Ordering) → order q k ≡ o → q ≡ k
-        go Less eo = let z : ◌≡◌ {A = Bool} false true = sym (rw eo refl) ∙ e in differ cc
+        go Less eo = let z : ◌≡◌ {A = Bool} false true = sym (rw eo refl) ∙ e in cc
         go Equal eo = tot.same q k eo
-        go Greater eo = let z : ◌≡◌ {A = Bool} false true = sym (rw eo refl) ∙ e in differ cc
+        go Greater eo = let z : ◌≡◌ {A = Bool} false true = sym (rw eo refl) ∙ e in cc
 
     pub key_true : (o : Option K) (k : K) → is_key order k o ≡ true → o ≡ Some k
-    key_true None k e = differ cc
+    key_true None k e = cc
     key_true (Some q) k e = ap Some (same_true q k e)
 
     pub true_key : (o : Option K) (k : K) → o ≡ Some k → is_key order k o ≡ true

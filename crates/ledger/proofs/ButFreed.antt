@@ -4,13 +4,14 @@
 use Rattle.std.proofs.Common.{◌≡◌, ℕ, Bool, true, false, not, ◌&&◌, List, ◌∷◌, ◌++◌, Some, None, filter, Option, sym, refl, subst}
 use Rattle.std.specs.List.{AllByRecursion}
 use Rattle.std.proofs.lemmas.List.{append_assoc}
+use Rattle.std.proofs.lemmas.List.Elements.{filter_map-append}
 use Rattle.std.proofs.ByRecursion.{All-append, All-weaker, kept_by_passes}
 use Rattle.ledger.specs.declared.place.Report.{Report}
-use Rattle.ledger.specs.Words.{when, listed, picked}
+use Rattle.ledger.specs.Words.{when, picked}
 use Rattle.ledger.specs.Places.{in_report}
 use Rattle.ledger.specs.Versions.{Version, draft, committed, wanted, finished}
-use Rattle.ledger.proofs.Permutations.{Perm, skip, then, perm_eq, perm_joined, perm_append_left, perm_append_right, picked_kept, kept_both}
-use Rattle.ledger.proofs.Finding.{never, joined_append, picked_self}
+use Rattle.ledger.proofs.Permutations.{Perm, skip, then, perm_eq, perm_picked, perm_append_left, perm_append_right, picked_kept, kept_both}
+use Rattle.ledger.proofs.Finding.{picked_self}
 use Rattle.ledger.proofs.Contents.{spared}
 
 -- superseded, and in no open report's span
@@ -38,7 +39,7 @@ module _ {K R : Type 0} (reports : List Report) (all here : List (Version K R)) 
     freed = w.freed;
     listed =
         then (perm_append_left (picked g here) (perm_eq w.freed (picked g w.freed) (sym (picked_self g w.freed (All-weaker (Freeable reports) (λ v. g v ≡ Some v) alone w.freed w.freeable)))))
-        (then (perm_eq (picked g here ++ picked g w.freed) (picked g (here ++ w.freed)) (sym (joined_append (λ v. listed (g v)) here w.freed))) (perm_joined (λ v. listed (g v)) w.listed));
+        (then (perm_eq (picked g here ++ picked g w.freed) (picked g (here ++ w.freed)) (sym (filter_map-append g here w.freed))) (perm_picked g w.listed));
     freeable = w.freeable;
   }
 
@@ -50,14 +51,14 @@ module _ {K R : Type 0} (reports : List Report) (all here : List (Version K R)) 
 
   -- what ageing takes away is freeable
   unspared : (test : ℕ → Bool) (v : Version K R) → not (spared test reports v) ≡ true → Freeable reports v
-  unspared test (draft j k d) h = never false refl h
-  unspared test (committed k r b None) h = never false refl h
+  unspared test (draft j k d) h = cc
+  unspared test (committed k r b None) h = cc
   unspared test (committed k r b (Some f)) h = go (test f) (in_report reports b f) h
     where
       go : (x y : Bool) → not (not (x && not y)) ≡ true → (true ≡ true) × (y ≡ false)
-      go true true h = never false refl h
+      go true true h = cc
       go true false h = (refl, refl)
-      go false y h = never false refl h
+      go false y h = cc
 
   -- after ageing
   pub but_freed_aged : (test : ℕ → Bool) → AllButFreed reports all (filter (spared test reports) here)

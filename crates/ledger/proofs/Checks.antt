@@ -8,7 +8,6 @@ use Rattle.ledger.specs.declared.call.BasicCall.TheVariants.{BeginReport, BeginJ
 use Rattle.ledger.specs.Words.{when, first}
 use Rattle.ledger.specs.Calls.{drafts, change}
 use Rattle.ledger.specs.Steps.{Summary, told_holder, checks}
-use Rattle.ledger.proofs.Finding.{differ}
 
 -- what the check tells, if it refuses, is so
 abbrev pub Tells : (Code → Type 0) → Option Code → Type 0
@@ -16,15 +15,15 @@ Tells P o = (c : Code) → o ≡ Some c → P c
 
 pub tells_when : (P : Code → Type 0) (c : Code) → P c → (b : Bool) → Tells P (when b c)
 tells_when P c p true c' e = let ec : c ≡ c' = cc in subst P ec p
-tells_when P c p false c' e = differ cc
+tells_when P c p false c' e = cc
 
 pub tells_holder : (P : Code → Type 0) → ((t : ℕ) → P (record { number = 7; values = t ∷ [] })) → (o : Option ℕ) → Tells P (told_holder o)
-tells_holder P p None c e = differ cc
+tells_holder P p None c e = cc
 tells_holder P p (Some t) c e = let ec : record { number = 7; values = t ∷ [] } ≡ c = cc in subst P ec (p t)
 
 -- so is what the first check that refuses tells
 pub tells_first : (P : Code → Type 0) (cs : List (Option Code)) → AllByRecursion (Tells P) cs → Tells P (first (λ check. check) cs)
-tells_first P [] a c e = differ cc
+tells_first P [] a c e = cc
 tells_first P (None ∷ cs) a c e = tells_first P cs a.1 c e
 tells_first P (Some x ∷ cs) a c e = a.0 c e
 
@@ -58,5 +57,5 @@ module _ {K R : Type 0} (order : K → K → Ordering) (P : Code → Type 0) (kn
 
 -- a check that lets the call pass
 pub passed : (b : Bool) (c : Code) → when b c ≡ None → b ≡ false
-passed true c e = differ cc
+passed true c e = cc
 passed false c e = refl

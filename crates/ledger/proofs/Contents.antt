@@ -2,6 +2,7 @@
 -- A move that goes place by place picks or changes versions one by one; a put or remove takes one place out and puts its draft there;
 -- and every place holds a wanted version just where there are as many wanted versions as places.
 use Rattle.std.proofs.Common.{◌≡◌, ℕ, zero, suc, ◌+◌, ◌<◌, ◌≤◌, Bool, true, false, cond, not, ◌&&◌, eqb, List, [], ◌∷◌, ◌++◌, map, length, get_or, set, Some, None, count_by, filter, Option, Ordering, sym, refl, ap, ◌∙◌, arith}
+use Rattle.std.specs.List.{cons_option}
 use Rattle.std.proofs.lemmas.List.Sums.{sum_by-append}
 use Rattle.std.proofs.lemmas.Bool.{eq-eqb, ne_eqb, eqb-true, eqb-false}
 use Rattle.ledger.specs.declared.place.Place.{Place}
@@ -13,7 +14,7 @@ use Rattle.ledger.specs.Places.{free, in_report, is_free, is_wanted}
 use Rattle.ledger.specs.Versions.{Version, draft, committed, wanted, finished, drafted_by, settled}
 use Rattle.ledger.specs.Steps.{version_in, versions_in, all_wanted, place_settled, place_aborted, place_aged}
 use Rattle.ledger.proofs.Permutations.{Perm, perm_refl, perm_shift, picked_kept}
-use Rattle.ledger.proofs.Finding.{never, and_then}
+use Rattle.ledger.proofs.Finding.{and_then}
 
 -- a change of each place is a change of each version
 versions_map : {K R : Type 0} (f : Place K → Place K) (g : Version K R → Option (Version K R)) → ((p : PlaceState K) (r : R) → version_in (f (record { state = p })).state r ≡ and_then (version_in p r) g) → (ps : List (Place K)) (rs : List R) → versions_in (map f ps) rs ≡ picked g (versions_in ps rs)
@@ -22,9 +23,13 @@ versions_map f g h (p ∷ ps) [] = refl
 versions_map {K} {R} f g h (p ∷ ps) (r ∷ rs) =
     rw (h p.state r) (ap (λ vs. listed (and_then (version_in p.state r) g) ++ vs) (versions_map f g h ps rs) ∙ one (version_in p.state r))
   where
+    joined : (o : Option (Version K R)) → listed o ++ picked g (versions_in ps rs) ≡ cons_option o (picked g (versions_in ps rs))
+    joined None = refl
+    joined (Some v) = refl
+
     one : (o : Option (Version K R)) → listed (and_then o g) ++ picked g (versions_in ps rs) ≡ picked g (listed o ++ versions_in ps rs)
     one None = refl
-    one (Some v) = refl
+    one (Some v) = joined (g v)
 
 module _ {K R : Type 0} (order : K → K → Ordering) where
   pub versions_settled : (t stamp : ℕ) (written : K → Bool) (ps : List (Place K)) (rs : List R) → versions_in (map (place_settled t stamp written) ps) rs ≡ picked (settled order t stamp written) (versions_in ps rs)
@@ -57,11 +62,9 @@ versions_aborted {K} {R} t ps rs = versions_map (place_aborted t) (λ v. when (n
     freed p v r e false = e
 
     each : (p : PlaceState K) (r : R) → version_in (place_aborted t (record { state = p })).state r ≡ and_then (version_in p r) (λ v. when (not (drafted_by t v)) v)
-    each Free r = refl
     each (Unstamped k j) r = freed (Unstamped k j) (draft j k (Some r)) r refl (eqb j t)
     each (Gone k j) r = freed (Gone k j) (draft j k None) r refl (eqb j t)
-    each (Current k b) r = refl
-    each (Superseded k b f) r = refl
+    each _ r = refl
 
 -- what ageing, of the superseded versions whose finish passes the test, leaves
 abbrev pub spared : {K R : Type 0} → (ℕ → Bool) → List Report → Version K R → Bool
@@ -71,15 +74,12 @@ pub versions_aged : {K R : Type 0} (test : ℕ → Bool) (reports : List Report)
 versions_aged {K} {R} test reports ps rs = versions_map (place_aged test reports) (λ v. when (spared test reports v) v) each ps rs ∙ picked_kept (spared test reports) (versions_in ps rs)
   where
     each : (p : PlaceState K) (r : R) → version_in (place_aged test reports (record { state = p })).state r ≡ and_then (version_in p r) (λ v. when (spared test reports v) v)
-    each Free r = refl
-    each (Unstamped k j) r = refl
-    each (Gone k j) r = refl
-    each (Current k b) r = refl
     each (Superseded k b f) r = go (test f && not (in_report reports b f))
       where
         go : (c : Bool) → version_in {R = R} (cond {A = Place K} c free (record { state = Superseded k b f })).state r ≡ when (not c) (committed k r b (Some f))
         go true = refl
         go false = refl
+    each _ r = refl
 
 -- one place may be taken out, and anything put there, with the record that lies there or with another
 pub record Taken {K R : Type 0} (ps : List (Place K)) (rs : List R) (n : ℕ) : Type 0 where
@@ -115,19 +115,13 @@ versions_free {K} {R} (p ∷ ps) (r ∷ rs) zero e = go p.state e
   where
     go : (q : PlaceState K) → is_free q ≡ true → versions_in ps rs ≡ listed (version_in q r) ++ versions_in ps rs
     go Free e = refl
-    go (Unstamped k j) e = never false refl e
-    go (Gone k j) e = never false refl e
-    go (Current k b) e = never false refl e
-    go (Superseded k b f) e = never false refl e
+    go _ e = cc
 versions_free (p ∷ ps) (r ∷ rs) (suc n) e = ap (λ vs. listed (version_in p.state r) ++ vs) (versions_free ps rs n e)
 
 -- a place holds one wanted version or none
 wanted_here : {K R : Type 0} (reports : List Report) (p : PlaceState K) (r : R) → count_by (wanted reports) (listed (version_in p r)) ≡ cond (is_wanted reports p) 1 0
-wanted_here reports Free r = refl
-wanted_here reports (Unstamped k j) r = refl
-wanted_here reports (Gone k j) r = refl
-wanted_here reports (Current k b) r = refl
 wanted_here reports (Superseded k b f) r = omega arith
+wanted_here reports _ r = refl
 
 wanted_le : {K R : Type 0} (reports : List Report) (ps : List (Place K)) (rs : List R) → count_by (wanted reports) (versions_in ps rs) ≤ length ps
 wanted_le reports [] rs = omega arith

@@ -1,20 +1,10 @@
 -- What `first`, `any` and counts give on lists that were joined, filtered or shuffled.
 -- The one idea: where at most one element of a list is found, its place in the list does not matter.
 use Rattle.std.proofs.Common.{◌≡◌, ℕ, ◌+◌, ◌≤◌, Bool, true, false, cond, ◌&&◌, ◌||◌, List, [], ◌∷◌, ◌++◌, is_some, Some, None, sum_by, count_by, filter, Option, sym, refl, ap, ◌∙◌, subst, arith}
-use Rattle.std.specs.List.{flat_map, AllByRecursion}
-use Rattle.std.proofs.lemmas.List.{append_assoc}
-use Rattle.std.proofs.ByRecursion.{All-append}
-use Rattle.std.proofs.lemmas.List.Sums.{sum_by-cons, sum_by-append}
-use Rattle.std.proofs.lemmas.Bool.{both_ways}
+use Rattle.std.specs.List.{cons_option, AllByRecursion}
+use Rattle.std.proofs.lemmas.List.Sums.{sum_by-cons}
 use Rattle.ledger.specs.Words.{when, listed, picked, first, or_else, any}
 use Rattle.ledger.proofs.Permutations.{Perm, none, skip, swap, then, perm_sum}
-
-pub never : {G : Type 0} (b : Bool) → b ≡ false → b ≡ true → G
-never b p q = absurd (both_ways b p q)
-
--- used with `cc`, which finds that two constructors differ
-pub differ : {G : Type 0} → ◌≡◌ {A = ℕ} 0 1 → G
-differ z = absurd (omega arith)
 
 -- each element, from what holds of all
 pub all_of : {X : Type 0} (P : X → Type 0) → ((x : X) → P x) → (xs : List X) → AllByRecursion P xs
@@ -33,11 +23,11 @@ all_append_parts P (x ∷ xs) ys a = let r = all_append_parts P xs ys a.1 in ((a
 -- each that is picked, from what holds of what each element gives
 pub all_picked : {X Y : Type 0} (P : Y → Type 0) (g : X → Option Y) (xs : List X) → AllByRecursion (λ x. AllByRecursion P (listed (g x))) xs → AllByRecursion P (picked g xs)
 all_picked P g [] a = tt
-all_picked P g (x ∷ xs) a = All-append P (listed (g x)) (picked g xs) a.0 (all_picked P g xs a.1)
-
-pub joined_append : {X Y : Type 0} (g : X → List Y) (xs ys : List X) → flat_map g (xs ++ ys) ≡ flat_map g xs ++ flat_map g ys
-joined_append g [] ys = refl
-joined_append g (x ∷ xs) ys = ap (λ zs. g x ++ zs) (joined_append g xs ys) ∙ sym (append_assoc (g x) (flat_map g xs) (flat_map g ys))
+all_picked {X} {Y} P g (x ∷ xs) a = go (g x) a.0 (all_picked P g xs a.1)
+  where
+    go : (o : Option Y) → AllByRecursion P (listed o) → AllByRecursion P (picked g xs) → AllByRecursion P (cons_option o (picked g xs))
+    go None h i = i
+    go (Some y) h i = (h.0, i)
 
 pub picked_self : {X : Type 0} (g : X → Option X) (xs : List X) → AllByRecursion (λ x. g x ≡ Some x) xs → picked g xs ≡ xs
 picked_self g [] a = refl
@@ -56,17 +46,9 @@ any_kept p t [] h = refl
 any_kept {X} p t (x ∷ xs) h = go (p x) (t x) refl h (λ h'. any_kept p t xs h')
   where
     go : (a b : Bool) → p x ≡ a → (a || any p xs) ≡ false → (any p xs ≡ false → any p (filter t xs) ≡ false) → any p (cond b (x ∷ filter t xs) (filter t xs)) ≡ false
-    go true b e h rec = never true h refl
+    go true b e h rec = cc
     go false true e h rec = rw e (rec h)
     go false false e h rec = rec h
-
-pub any_push : {X : Type 0} (p : X → Bool) (xs : List X) (y : X) → any p xs ≡ false → p y ≡ false → any p (xs ++ (y ∷ [])) ≡ false
-any_push p [] y h k = rw k
-any_push {X} p (x ∷ xs) y h k = go (p x) h (λ h'. any_push p xs y h' k)
-  where
-    go : (a : Bool) → (a || any p xs) ≡ false → (any p xs ≡ false → any p (xs ++ (y ∷ [])) ≡ false) → (a || any p (xs ++ (y ∷ []))) ≡ false
-    go true h rec = never true h refl
-    go false h rec = rec h
 
 -- sums and counts
 pub sum_mono : {X : Type 0} (f g : X → ℕ) (xs : List X) → AllByRecursion (λ x. f x ≤ g x) xs → sum_by f xs ≤ sum_by g xs
@@ -107,7 +89,7 @@ found f x = is_some (f x)
 
 pub none_if : {X : Type 0} (o : Option X) → is_some o ≡ false → o ≡ None
 none_if None e = refl
-none_if (Some x) e = never true e refl
+none_if (Some x) e = cc
 
 pub found_when : {X : Type 0} (b : Bool) (x : X) → is_some (when b x) ≡ b
 found_when true x = refl
@@ -144,7 +126,7 @@ none_found {X} {Y} f (x ∷ xs) e = go (f x) refl e (λ e'. none_found f xs e')
   where
     go : (o : Option Y) → f x ≡ o → or_else o (first f xs) ≡ None → (first f xs ≡ None → AllByRecursion (λ x. f x ≡ None) xs) → (f x ≡ None) × AllByRecursion (λ x. f x ≡ None) xs
     go None p e rec = (p, rec e)
-    go (Some y) p e rec = differ cc
+    go (Some y) p e rec = cc
 
 -- what f finds in the option
 abbrev pub and_then : {X Y : Type 0} → Option X → (X → Option Y) → Option Y
@@ -154,11 +136,11 @@ and_then (Some x) f = f x
 -- what is found after g changed each element
 pub first_picked : {X Y Z : Type 0} (f : Y → Option Z) (h : X → Option Z) (g : X → Option Y) (xs : List X) → AllByRecursion (λ x. and_then (g x) f ≡ h x) xs → first f (picked g xs) ≡ first h xs
 first_picked f h g [] a = refl
-first_picked {X} {Y} {Z} f h g (x ∷ xs) a = first_append f (listed (g x)) (picked g xs) ∙ rw (one (g x) ∙ a.0) (ap (λ o. or_else (h x) o) (first_picked f h g xs a.1))
+first_picked {X} {Y} {Z} f h g (x ∷ xs) a = go (g x) (h x) a.0 (first_picked f h g xs a.1)
   where
-    one : (o : Option Y) → first f (listed o) ≡ and_then o f
-    one None = refl
-    one (Some y) = or_none (f y)
+    go : (o : Option Y) (r : Option Z) → and_then o f ≡ r → first f (picked g xs) ≡ first h xs → first f (cons_option o (picked g xs)) ≡ or_else r (first h xs)
+    go None r e i = rw (← e) i
+    go (Some y) r e i = rw (e, i)
 
 -- how much is found after g changed each element
 pub count_picked : {X Y Z : Type 0} (f : Y → Option Z) (g : X → Option Y) (xs : List X) → count_by (found f) (picked g xs) ≡ count_by (λ x. is_some (and_then (g x) f)) xs
@@ -166,11 +148,11 @@ count_picked f g [] = refl
 count_picked {X} {Y} {Z} f g (x ∷ xs) =
     let i = count_picked f g xs in
     let o = one (g x) in
-    omega (arith, sum_by-append (λ y. cond (found f y) 1 0) (listed (g x)) (picked g xs), sum_by-cons (λ x. cond (is_some (and_then (g x) f)) 1 0) x xs)
+    omega (arith, sum_by-cons (λ x. cond (is_some (and_then (g x) f)) 1 0) x xs)
   where
-    one : (o : Option Y) → count_by (found f) (listed o) ≡ cond (is_some (and_then o f)) 1 0
-    one None = refl
-    one (Some y) = omega arith
+    one : (o : Option Y) → count_by (found f) (cons_option o (picked g xs)) ≡ cond (is_some (and_then o f)) 1 0 + count_by (found f) (picked g xs)
+    one None = omega arith
+    one (Some y) = omega (arith, sum_by-cons (λ y. cond (found f y) 1 0) y (picked g xs))
 
 pub first_kept : {X Y : Type 0} (f : X → Option Y) (t : X → Bool) (xs : List X) → ((x : X) → t x ≡ false → f x ≡ None) → first f (filter t xs) ≡ first f xs
 first_kept f t [] h = refl

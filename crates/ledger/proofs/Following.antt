@@ -2,27 +2,28 @@
 -- Look-ups agree, so checks do; that every place holds a wanted version is the same as that there are as many of them as places.
 -- Moves of places pick or change versions one by one, so the versions stay the model's; ageing frees only what is freeable, and that stays freeable:
 -- a new report begins at the store's stamp, which no finish passes.
-use Rattle.std.proofs.Common.{◌≡◌, ℕ, ◌+◌, ◌≤◌, Bool, true, false, cond, not, ◌&&◌, ◌||◌, eqb, ltb, leb, List, ◌∷◌, ◌++◌, map, length, get_or, set, is_some, Some, None, count_by, filter, Option, Ordering, sym, refl, ap, ◌∙◌, subst, arith}
+use Rattle.std.proofs.Common.{◌≡◌, ℕ, ◌+◌, ◌≤◌, Bool, true, false, cond, not, ◌&&◌, ◌||◌, eqb, ltb, leb, List, [], ◌∷◌, ◌++◌, map, length, get_or, set, is_some, Some, None, count_by, filter, Option, Ordering, sym, refl, ap, ◌∙◌, subst, arith}
 use mathlib.Core.Path.{fun_ext}
 use Rattle.std.specs.List.{AllByRecursion}
 use Rattle.std.proofs.lemmas.List.{length-set, length-map, set-get_or}
 use Rattle.std.proofs.ByRecursion.{All-weaker}
+use Rattle.std.proofs.lemmas.List.Folds.{list_any-append}
 use Rattle.std.proofs.lemmas.List.Sums.{sum_by-cons, sum_by-append}
 use Rattle.std.proofs.lemmas.Bool.{eqb-true, le-ltb, and_parts, and_right}
 use Rattle.keys.specs.Orders.{Total}
 use Rattle.ledger.specs.declared.call.Call.{Call}
 use Rattle.ledger.specs.declared.call.Call.TheVariants.{Walk, Basic}
-use Rattle.ledger.specs.declared.call.BasicCall.TheVariants.{BeginReport, BeginJob, Read, Look, Put, Remove, Commit, Abort, End, Age}
+use Rattle.ledger.specs.declared.call.BasicCall.TheVariants.{BeginReport, Read, Look, Put, Remove, End, Age}
 use Rattle.ledger.specs.declared.place.Place.{Place}
 use Rattle.ledger.specs.declared.place.PlaceState.{PlaceState}
-use Rattle.ledger.specs.declared.place.PlaceState.TheVariants.{Free, Unstamped, Gone, Current, Superseded}
+use Rattle.ledger.specs.declared.place.PlaceState.TheVariants.{Free, Unstamped, Gone}
 use Rattle.ledger.specs.Words.{listed, any, same}
 use Rattle.ledger.specs.Places.{next, free, spans, in_report, is_free, is_draft_of, carries}
 use Rattle.ledger.specs.Versions.{Version, draft, committed, drafted_by, draft_in, draft_at, has_draft, settled}
 use Rattle.ledger.specs.Calls.{Change, keeps, drafts, commits, aborts, ages, change}
 use Rattle.ledger.specs.Steps.{State, Summary, summary, version_in, versions_in, all_wanted, sent_back, control_after, place_settled, place_aborted, place_aged, draft_event, shelved, ready, Takes, Moves}
 use Rattle.ledger.proofs.Permutations.{Perm, then, perm_eq, perm_sym, perm_all, perm_sum, perm_kept}
-use Rattle.ledger.proofs.Finding.{never, found, found_when, none_found, none_if, all_none, all_both, all_append_parts, any_kept, any_push, kept_all}
+use Rattle.ledger.proofs.Finding.{found, found_when, none_found, none_if, all_none, all_both, all_append_parts, any_kept, kept_all}
 use Rattle.ledger.proofs.ButFreed.{Freeable, AllButFreed, but_freed_perm, but_freed_cons, but_freed_picked, but_freed_kept, but_freed_aged}
 use Rattle.ledger.proofs.Contents.{Taken, taken, versions_free, versions_settled, versions_aborted, versions_aged, full_is}
 use Rattle.ledger.proofs.Model.{full, met, versions_after, moved_on, InTime, Sound, Agrees, freeable_no_draft, same_draft, same_current, same_wanted}
@@ -41,31 +42,20 @@ module _ {K R : Type 0} (order : K → K → Ordering) (tot : Total order) where
 
     -- the same refusal
     pub same_met : (c : Call K R) (n : ℕ) → sent_back order (all_wanted s.control.reports s.places) (summary s) c n ≡ met order b c n
-    same_met (Walk t from) n = rw a.control
-    same_met (Basic BeginReport) n = rw a.control
-    same_met (Basic BeginJob) n = rw a.control
     same_met (Basic (Read t k)) n = rw (a.control, a.places)
     same_met (Basic (Look t k)) n = rw (a.control, a.places, same_draft order b s a so t.number k, same_current order b s a so k)
     same_met (Basic (Put t k r)) n = rw (same_full, a.control, a.places, same_draft order b s a so t.number k)
     same_met (Basic (Remove t k)) n = rw (same_full, a.control, same_draft order b s a so t.number k, same_current order b s a so k)
-    same_met (Basic (Commit t)) n = rw a.control
-    same_met (Basic (Abort t)) n = rw a.control
-    same_met (Basic (End t)) n = rw a.control
     same_met (Basic (Age limit)) n = refl
+    same_met _ n = rw a.control
 
     -- the same control state after a granted call
     pub same_control : (c : Call K R) → control_after order (summary s) c ≡ control_after order b c
     same_control (Walk t from) = a.control
-    same_control (Basic BeginReport) = rw a.control
-    same_control (Basic BeginJob) = rw a.control
     same_control (Basic (Read t k)) = a.control
     same_control (Basic (Look t k)) = rw (a.control, same_draft order b s a so t.number k, same_current order b s a so k)
-    same_control (Basic (Put t k r)) = rw a.control
-    same_control (Basic (Remove t k)) = rw a.control
-    same_control (Basic (Commit t)) = rw a.control
-    same_control (Basic (Abort t)) = rw a.control
-    same_control (Basic (End t)) = rw a.control
     same_control (Basic (Age limit)) = a.control
+    same_control _ = rw a.control
 
   -- a place that suits becomes the draft's
   becomes_draft : (t : ℕ) (k : K) (d : Option R) (own : Bool) (p : PlaceState K) → cond own (is_draft_of t p && carries order k p) (is_free p) ≡ true → next p (draft_event t k d) ≡ draft_state t k d
@@ -79,25 +69,18 @@ module _ {K R : Type 0} (order : K → K → Ordering) (tot : Total order) where
       go : (own : Bool) (p : PlaceState K) → cond own (is_draft_of t p && carries order k p) (is_free p) ≡ true → (d : Option R) → next p (draft_event t k d) ≡ draft_state t k d
       go false Free h (Some r) = refl
       go false Free h None = refl
-      go false (Unstamped q j) h d = never false refl h
-      go false (Gone q j) h d = never false refl h
-      go false (Current q b) h d = never false refl h
-      go false (Superseded q b f) h d = never false refl h
-      go true Free h d = never false refl h
+      go false _ h d = cc
       go true (Unstamped q j) h (Some r) = same_draft_state q j h (Some r)
       go true (Unstamped q j) h None = same_draft_state q j h None
       go true (Gone q j) h (Some r) = same_draft_state q j h (Some r)
       go true (Gone q j) h None = same_draft_state q j h None
-      go true (Current q b) h d = never false refl h
-      go true (Superseded q b f) h d = never false refl h
+      go true _ h d = cc
 
   -- a place of the job's draft at the key holds that draft
   holds_draft : (t : ℕ) (k : K) (p : PlaceState K) (r : R) → (is_draft_of t p && carries order k p) ≡ true → (d : Version K R) × (version_in p r ≡ Some d) × (is_some (draft_in order t k d) ≡ true)
-  holds_draft t k Free r h = never false refl h
   holds_draft t k (Unstamped q j) r h = (draft j q (Some r), refl, found_when (eqb j t && same order q k) (Some r) ∙ h)
   holds_draft t k (Gone q j) r h = (draft j q None, refl, found_when (eqb j t && same order q k) None ∙ h)
-  holds_draft t k (Current q b) r h = never false refl h
-  holds_draft t k (Superseded q b f) r h = never false refl h
+  holds_draft t k _ r h = cc
 
   module _ (b : Summary K R) (s : State K R) (a : Agrees b s) (so : Sound order b.control.stamp b.versions) where
     same_reports : s.control.reports ≡ b.control.reports
@@ -207,8 +190,8 @@ module _ {K R : Type 0} (order : K → K → Ordering) (tot : Total order) where
         same_written = fun_ext (λ k. ap is_some (same_draft order b s a so t k))
 
         settled_alone : (t stamp : ℕ) (written : K → Bool) (v : Version K R) → Freeable b.control.reports v → settled order t stamp written v ≡ Some v
-        settled_alone t stamp written (draft j k d) h = never false refl h.0
-        settled_alone t stamp written (committed k r b None) h = never false refl h.0
+        settled_alone t stamp written (draft j k d) h = cc
+        settled_alone t stamp written (committed k r b None) h = cc
         settled_alone t stamp written (committed k r b (Some f)) h = refl
     moved (aborts t) ps rs m = record {
       places = ap length m.0 ∙ (length-map s.places (place_aborted t) ∙ a.places);
@@ -217,7 +200,7 @@ module _ {K R : Type 0} (order : K → K → Ordering) (tot : Total order) where
     }
       where
         not_drafted : (v : Version K R) → Freeable b.control.reports v → not (drafted_by t v) ≡ true
-        not_drafted (draft j k d) h = never false refl h.0
+        not_drafted (draft j k d) h = cc
         not_drafted (committed k r b f) h = refl
     moved (ages limit) ps rs m = record {
       places = ap length m.0 ∙ (length-map s.places (place_aged (λ f. ltb f limit) s.control.reports) ∙ a.places);
@@ -227,22 +210,14 @@ module _ {K R : Type 0} (order : K → K → Ordering) (tot : Total order) where
 
   -- what is freeable stays so when a report begins at the stamp, and when one ends
   still_freeable : (b : Summary K R) (c : Call K R) (v : Version K R) → InTime (control_after order b c).stamp v → Freeable b.control.reports v → Freeable (control_after order b c).reports v
-  still_freeable b c (draft j k d) i h = never false refl h.0
-  still_freeable b c (committed k r x None) i h = never false refl h.0
+  still_freeable b c (draft j k d) i h = cc
+  still_freeable b c (committed k r x None) i h = cc
   still_freeable b c (committed k r x (Some f)) i h = (refl, go c i h.1)
     where
       go : (c : Call K R) → f ≤ (control_after order b c).stamp → in_report b.control.reports x f ≡ false → in_report (control_after order b c).reports x f ≡ false
-      go (Walk t from) i h = h
-      go (Basic BeginReport) i h = any_push (λ r. spans x (Some f) r.stamp) b.control.reports (record { ticket = b.control.next; stamp = b.control.stamp }) h (and_right (leb x b.control.stamp) (ltb b.control.stamp f) (le-ltb b.control.stamp f i))
-      go (Basic BeginJob) i h = h
-      go (Basic (Read t k)) i h = h
-      go (Basic (Look t k)) i h = h
-      go (Basic (Put t k r)) i h = h
-      go (Basic (Remove t k)) i h = h
-      go (Basic (Commit t)) i h = h
-      go (Basic (Abort t)) i h = h
+      go (Basic BeginReport) i h = rw (list_any-append (λ r. spans x (Some f) r.stamp) b.control.reports (record { ticket = b.control.next; stamp = b.control.stamp } ∷ []), h, and_right (leb x b.control.stamp) (ltb b.control.stamp f) (le-ltb b.control.stamp f i))
       go (Basic (End t)) i h = any_kept (λ r. spans x (Some f) r.stamp) (λ r. not (eqb r.ticket t.number)) b.control.reports h
-      go (Basic (Age limit)) i h = h
+      go _ i h = h
 
   -- after a granted call the store agrees with the model again
   pub agrees_after : (b : Summary K R) (s s' : State K R) (a : Agrees b s) (so : Sound order b.control.stamp b.versions) (c : Call K R) → s'.control ≡ control_after order b c → Moves order s (change c) s'.places s'.shelf → Agrees (moved_on order None b c) s'

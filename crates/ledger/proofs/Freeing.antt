@@ -10,7 +10,7 @@ use Rattle.ledger.specs.declared.call.Call.TheVariants.{Basic}
 use Rattle.ledger.specs.declared.call.BasicCall.TheVariants.{Age}
 use Rattle.ledger.specs.declared.place.Place.{Place}
 use Rattle.ledger.specs.declared.place.PlaceState.{PlaceState}
-use Rattle.ledger.specs.declared.place.PlaceState.TheVariants.{Free, Unstamped, Gone, Current, Superseded}
+use Rattle.ledger.specs.declared.place.PlaceState.TheVariants.{Free, Superseded}
 use Rattle.ledger.specs.declared.place.Report.{Report}
 use Rattle.ledger.specs.Words.{listed}
 use Rattle.ledger.specs.Places.{free, in_report}
@@ -19,7 +19,6 @@ use Rattle.ledger.specs.Calls.{Exchange}
 use Rattle.ledger.specs.Steps.{State, Summary, version_in, versions_in, place_aged, Step, Numbers, Run}
 use Rattle.ledger.specs.Laws.{HasPlace, KeptOrFreed, AgeFrees}
 use Rattle.ledger.proofs.Permutations.{perm_all}
-use Rattle.ledger.proofs.Finding.{never, differ}
 use Rattle.ledger.proofs.ButFreed.{Freeable}
 use Rattle.ledger.proofs.Model.{Agrees}
 use Rattle.ledger.proofs.Runs.{model_of, run_agrees}
@@ -46,18 +45,16 @@ placed {K} {R} test reports (p ∷ ps) (r ∷ rs) =
   where
     here : (q : PlaceState K) → AllByRecursion (Placed reports (place_aged test reports (record { state = q }) ∷ map (place_aged test reports) ps) (r ∷ rs)) (listed (version_in q r))
     here Free = tt
-    here (Unstamped k j) = (tt, tt)
-    here (Gone k j) = (tt, tt)
-    here (Current k b) = (tt, tt)
     here (Superseded k b f) = (λ w. (zero, rw w (go (test f)), refl), tt)
       where
         go : (x : Bool) → ◌≡◌ {A = Option (Place K)} (Some (cond (x && false) free (record { state = Superseded k b f }))) (Some (record { state = Superseded k b f }))
         go true = refl
         go false = refl
+    here _ = (tt, tt)
 
 -- what still has a place after ageing, though its finish passes the test, is wanted
 still : {K : Type 0} (test : ℕ → Bool) (reports : List Report) (ps : List (Place K)) (n : ℕ) (k : K) (b f : ℕ) → slice_get (map (place_aged test reports) ps) n ≡ Some (record { state = Superseded k b f }) → test f ≡ true → in_report reports b f ≡ true
-still test reports [] n k b f e t = differ cc
+still test reports [] n k b f e t = cc
 still test reports (p ∷ ps) (suc n) k b f e t = still test reports ps n k b f e t
 still {K} test reports (p ∷ ps) zero k b f e t = here p.state (ap state_of e)
   where
@@ -66,16 +63,13 @@ still {K} test reports (p ∷ ps) zero k b f e t = here p.state (ap state_of e)
     state_of (Some p) = p.state
 
     here : (q : PlaceState K) → (place_aged test reports (record { state = q })).state ≡ Superseded k b f → in_report reports b f ≡ true
-    here Free e = differ cc
-    here (Unstamped q j) e = differ cc
-    here (Gone q j) e = differ cc
-    here (Current q c) e = differ cc
     here (Superseded q c g) e = go (test g) (in_report reports c g) refl refl e
       where
         go : (x w : Bool) → test g ≡ x → in_report reports c g ≡ w → (cond (x && not w) free (record { state = Superseded q c g })).state ≡ Superseded k b f → in_report reports b f ≡ true
-        go true false ex ew e = differ cc
+        go true false ex ew e = cc
         go true true ex ew e = let eb : c ≡ b = cc in let ef : g ≡ f = cc in rw (← eb, ← ef) ew
-        go false w ex ew e = let ef : g ≡ f = cc in never (test g) ex (rw ef t)
+        go false w ex ew e = cc
+    here _ e = cc
 
 module _ {K R : Type 0} (order : K → K → Ordering) (tot : Total order) where
   aged_rightly : (b : Summary K R) (before s : State K R) (limit : ℕ) → Agrees b before → s.places ≡ map (place_aged (λ f. ltb f limit) before.control.reports) before.places → s.shelf ≡ before.shelf → AllByRecursion (KeptOrFreed (ledger_of b) s limit) b.versions
@@ -105,7 +99,7 @@ module _ {K R : Type 0} (order : K → K → Ordering) (tot : Total order) where
       gone : (v : Version K R) → Freeable b.control.reports v → KeptOrFreed (ledger_of b) s limit v
       gone (draft j k d) h = tt
       gone (committed k x b' None) h = tt
-      gone (committed k x b' (Some f)) h = λ l. (wants k x b' f l, λ w. never (in_report b.control.reports b' f) h.1 w)
+      gone (committed k x b' (Some f)) h = λ l. (wants k x b' f l, λ w. cc)
 
   pub age_frees : (o : Numbers) (e : Exchange K R) (past : List (Exchange K R)) (s : State K R) → Run order o (e ∷ past) s → AgeFrees order o s e past
   age_frees o e past s r limit q =

@@ -1,25 +1,25 @@
 -- (c), of 10: a call that meets no earlier refusal gets 10 exactly when it needs a place and the wanted versions are as many as the places.
 -- A run meets the refusals of its model, whose versions are the ledger's. Only put and remove check for a place, last of all,
 -- and in the model that check counts the wanted versions.
-use Rattle.std.proofs.Common.{◌≡◌, ℕ, Bool, true, false, not, ◌&&◌, ◌↔◌, List, [], ◌∷◌, ◌++◌, Some, None, count_by, Option, Ordering, unwrap_or, sym, refl, ap, ◌∙◌, subst}
+use Rattle.std.proofs.Common.{◌≡◌, ℕ, Bool, true, false, not, ◌&&◌, ◌↔◌, List, [], ◌∷◌, ◌++◌, Some, None, count_by, Option, Ordering, unwrap_or, sym, refl, ap, subst}
 use Rattle.std.specs.List.{AllByRecursion}
 use Rattle.std.proofs.lemmas.Bool.{eqb-true, eq-eqb}
 use Rattle.keys.specs.Orders.{Total}
 use Rattle.keys.specs.Refusals.{Code, plain}
 use Rattle.ledger.specs.declared.call.Call.{Call}
-use Rattle.ledger.specs.declared.call.Call.TheVariants.{Walk, Basic}
-use Rattle.ledger.specs.declared.call.BasicCall.TheVariants.{BeginReport, BeginJob, Read, Look, Put, Remove, Commit, Abort, End, Age}
+use Rattle.ledger.specs.declared.call.Call.TheVariants.{Basic}
+use Rattle.ledger.specs.declared.call.BasicCall.TheVariants.{Put, Remove}
 use Rattle.ledger.specs.Words.{when, first, or_else}
 use Rattle.ledger.specs.Versions.{has_draft, wanted}
 use Rattle.ledger.specs.Calls.{Exchange, drafts, change, refusal}
 use Rattle.ledger.specs.Ledger.{Ledger, ledger, how_many_wanted}
-use Rattle.ledger.specs.Steps.{State, Summary, summary, job_open, shelf_fits, not_held, something_there, row_left, checks, Outcome, Numbers, Run}
+use Rattle.ledger.specs.Steps.{State, Summary, job_open, shelf_fits, not_held, something_there, row_left, checks, Outcome, Numbers, Run}
 use Rattle.ledger.specs.Laws.{but_for_age, asked, refused_earlier, NeedsPlace, FullIsFull}
-use Rattle.ledger.proofs.Finding.{never, differ, first_append}
+use Rattle.ledger.proofs.Finding.{first_append}
 use Rattle.ledger.proofs.Model.{full, met, moved_on}
 use Rattle.ledger.proofs.Following.{same_met}
 use Rattle.ledger.proofs.Runs.{model, model_of, sound_model, run_agrees}
-use Rattle.ledger.proofs.Listed.{ledger_of, answered_granted, ledger_is}
+use Rattle.ledger.proofs.Listed.{ledger_of, ledger_is}
 use Rattle.ledger.proofs.Checks.{Tells, Known, tells_when, tells_holder, tells_first, checks_tell}
 
 -- the check for a place, behind checks that are earlier in the order
@@ -27,10 +27,10 @@ last_check : (early : List (Option Code)) → AllByRecursion (Tells (λ c. refus
 last_check early tell d f = subst (λ o. refused_earlier o ≡ false → (o ≡ Some (plain 10)) ↔ ((d ≡ false) × (f ≡ true))) (sym (first_append (λ check. check) early (when (not d && f) (plain 10) ∷ []))) (go (first (λ check. check) early) refl d f)
   where
     go : (o : Option Code) → first (λ check. check) early ≡ o → (d f : Bool) → refused_earlier (or_else o (or_else (when (not d && f) (plain 10)) None)) ≡ false → (or_else o (or_else (when (not d && f) (plain 10)) None) ≡ Some (plain 10)) ↔ ((d ≡ false) × (f ≡ true))
-    go (Some c) eo d f early_not = never (refused_earlier (Some c)) early_not (tells_first (λ c. refused_earlier (Some c) ≡ true) early tell c eo)
-    go None eo true f e = (λ h. differ cc, λ p. never true p.0 refl)
+    go (Some c) eo d f early_not = cc (tells_first (λ c. refused_earlier (Some c) ≡ true) early tell c eo)
+    go None eo true f e = (λ h. cc, λ p. cc)
     go None eo false true e = (λ h. (refl, refl), λ p. refl)
-    go None eo false false e = (λ h. differ cc, λ p. never false refl p.1)
+    go None eo false false e = (λ h. cc, λ p. cc)
 
 module _ {K R : Type 0} (order : K → K → Ordering) where
   -- a call that drafts nothing never gets 10
@@ -41,7 +41,7 @@ module _ {K R : Type 0} (order : K → K → Ordering) where
       P c = c.number ≡ 10 → ⊥
 
       known : Known P
-      known = record { shelf = λ z. differ cc; ticket = λ z. differ cc; too_many = λ z. differ cc; number = λ z. differ cc; holder = λ t z. differ cc; absent = λ z. differ cc; row = λ z. differ cc; stamp = λ z. differ cc }
+      known = record { shelf = λ z. cc; ticket = λ z. cc; too_many = λ z. cc; number = λ z. cc; holder = λ t z. cc; absent = λ z. cc; row = λ z. cc; stamp = λ z. cc }
 
   -- in the model
   ten_is_full : (b : Summary K R) (c : Call K R) (n : ℕ) → refused_earlier (met order b c n) ≡ false → (met order b c n ≡ Some (plain 10)) ↔ (NeedsPlace order b.versions (change c) × (count_by (wanted b.control.reports) b.versions ≡ b.places))
@@ -57,11 +57,6 @@ module _ {K R : Type 0} (order : K → K → Ordering) where
       Early c = refused_earlier (Some c) ≡ true
 
       go : (c : Call K R) (n : ℕ) → refused_earlier (met order b c n) ≡ false → (met order b c n ≡ Some (plain 10)) ↔ (NeedsPlace order b.versions (change c) × (count_by (wanted b.control.reports) b.versions ≡ b.places))
-      go (Walk t from) n e = none_needed (Walk t from) n (λ t k d h. differ cc)
-      go (Basic BeginReport) n e = none_needed (Basic BeginReport) n (λ t k d h. differ cc)
-      go (Basic BeginJob) n e = none_needed (Basic BeginJob) n (λ t k d h. differ cc)
-      go (Basic (Read t k)) n e = none_needed (Basic (Read t k)) n (λ t k d h. differ cc)
-      go (Basic (Look t k)) n e = none_needed (Basic (Look t k)) n (λ t k d h. differ cc)
       go (Basic (Put t k r)) n e =
           counted (last_check (job_open order b t ∷ shelf_fits order b n ∷ not_held order b t k ∷ row_left order b t k ∷ [])
           (tells_when Early (plain 4) refl _, (tells_when Early (plain 3) refl _, (tells_holder Early (λ t. refl) _, (tells_when Early (plain 9) refl _, tt))))
@@ -70,10 +65,7 @@ module _ {K R : Type 0} (order : K → K → Ordering) where
           counted (last_check (job_open order b t ∷ not_held order b t k ∷ something_there order b t k ∷ row_left order b t k ∷ [])
           (tells_when Early (plain 4) refl _, (tells_holder Early (λ t. refl) _, (tells_when Early (plain 8) refl _, (tells_when Early (plain 9) refl _, tt))))
           (has_draft order t.number k b.versions) (full b) e)
-      go (Basic (Commit t)) n e = none_needed (Basic (Commit t)) n (λ t k d h. differ cc)
-      go (Basic (Abort t)) n e = none_needed (Basic (Abort t)) n (λ t k d h. differ cc)
-      go (Basic (End t)) n e = none_needed (Basic (End t)) n (λ t k d h. differ cc)
-      go (Basic (Age limit)) n e = none_needed (Basic (Age limit)) n (λ t k d h. differ cc)
+      go c n e = none_needed c n (λ t k d h. cc)
 
 module _ {K R : Type 0} (order : K → K → Ordering) (tot : Total order) where
   -- no call changes the count of places
@@ -97,7 +89,7 @@ module _ {K R : Type 0} (order : K → K → Ordering) (tot : Total order) where
 
       go : (m : Option Code) → Outcome order m r.0 e s → refusal e.answer ≡ m
       go (Some why) h = h.answer
-      go None h = ap refusal h.answer ∙ answered_granted order (summary r.0) e.call
+      go None h = ap refusal h.answer
 
   pub full_is_full : (o : Numbers) (e : Exchange K R) (past : List (Exchange K R)) (s : State K R) → Run order o (e ∷ past) s → FullIsFull order o e past
   full_is_full o e past s r = go (model_of order tot o past) (ledger order o.stamp past) o.places (refusal e.answer) (ledger_is order tot o past r.0 r.1) (model_places o past) (run_refused o e past s r)

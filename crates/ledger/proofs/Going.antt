@@ -1,27 +1,25 @@
 -- No run sticks: whatever is asked after a run, some answer and some store make it a run again.
 -- A refusal needs only its code. A granted put or remove needs a place that suits: that of the job's draft, or a free one, which there is
 -- at the latest after ageing, since not every place holds a wanted version. Everything here computes, so that sessions can be run.
-use Rattle.std.proofs.Common.{◌≡◌, ℕ, zero, suc, ◌+◌, ◌<◌, Bool, true, false, cond, not, ◌&&◌, ◌||◌, eqb, ltb, List, [], ◌∷◌, ◌++◌, map, length, get_or, set, is_some, Some, None, Option, Ordering, sym, refl, ap, ◌∙◌, subst, arith}
+use Rattle.std.proofs.Common.{◌≡◌, ℕ, zero, suc, ◌+◌, ◌<◌, Bool, true, false, cond, not, ◌&&◌, ◌||◌, eqb, ltb, List, [], ◌∷◌, ◌++◌, map, length, get_or, set, is_some, Some, None, Option, Ok, Err, Ordering, sym, refl, ap, ◌∙◌, subst, arith}
 use Rattle.std.specs.List.{AllByRecursion}
 use Rattle.std.proofs.lemmas.List.{length-map, length-set}
 use Rattle.keys.specs.Refusals.{Code, plain}
 use Rattle.ledger.specs.declared.call.Call.{Call}
-use Rattle.ledger.specs.declared.call.Call.TheVariants.{Walk, Basic}
-use Rattle.ledger.specs.declared.call.BasicCall.TheVariants.{BeginReport, BeginJob, Read, Look, Put, Remove, Commit, Abort, End, Age}
-use Rattle.ledger.specs.declared.answer.Answer.{Answer}
-use Rattle.ledger.specs.declared.answer.Answer.TheVariants.{Refused}
+use Rattle.ledger.specs.declared.call.Call.TheVariants.{Basic}
+use Rattle.ledger.specs.declared.call.BasicCall.TheVariants.{Put, Remove}
 use Rattle.ledger.specs.declared.place.Place.{Place}
 use Rattle.ledger.specs.declared.place.PlaceState.{PlaceState}
-use Rattle.ledger.specs.declared.place.PlaceState.TheVariants.{Free, Unstamped, Gone, Current, Superseded}
+use Rattle.ledger.specs.declared.place.PlaceState.TheVariants.{Free, Unstamped, Gone, Superseded}
 use Rattle.ledger.specs.declared.place.Report.{Report}
 use Rattle.ledger.specs.Words.{when, or_else, listed, any, same}
 use Rattle.ledger.specs.Places.{after, free, in_report, is_free, is_draft_of, is_wanted, carries}
 use Rattle.ledger.specs.Versions.{draft_at, has_draft}
 use Rattle.ledger.specs.Refusals.{code}
-use Rattle.ledger.specs.Calls.{Exchange, Change, keeps, drafts, commits, aborts, ages, change}
+use Rattle.ledger.specs.Calls.{Answer, Exchange, Change, keeps, drafts, commits, aborts, ages, change}
 use Rattle.ledger.specs.Steps.{State, summary, version_in, versions_in, all_wanted, checks, sent_back, answered, control_after, place_settled, place_aborted, place_aged, draft_event, shelved, ready, Takes, Moves, Outcome, Step, Numbers, Run}
 use Rattle.ledger.specs.Laws.{GoesOn}
-use Rattle.ledger.proofs.Finding.{never, differ, none_found}
+use Rattle.ledger.proofs.Finding.{none_found}
 use Rattle.ledger.proofs.Codes.{refusal_of}
 use Rattle.ledger.proofs.Checks.{Known, tells_first, checks_tell, passed}
 
@@ -33,7 +31,7 @@ unfoldable pub later_place : {K : Type 0} (test : PlaceState K → Bool) (p : Pl
 later_place test p ps h = let l = h.1 in (suc h.0, omega arith, h.2)
 
 unfoldable pub some_place : {K : Type 0} (test : PlaceState K → Bool) (ps : List (Place K)) → any (λ p. test p.state) ps ≡ true → AtPlace test ps
-some_place test [] e = never false refl e
+some_place test [] e = cc
 some_place test (p ∷ ps) e = go (test p.state) refl e (λ e'. some_place test ps e')
   where
     go : (b : Bool) → test p.state ≡ b → (b || any (λ p. test p.state) ps) ≡ true → (any (λ p. test p.state) ps ≡ true → AtPlace test ps) → AtPlace test (p ∷ ps)
@@ -42,19 +40,17 @@ some_place test (p ∷ ps) e = go (test p.state) refl e (λ e'. some_place test 
 
 -- where not every place holds a wanted version, one is free after ageing
 pub free_when_aged : {K : Type 0} (reports : List Report) (ps : List (Place K)) → all_wanted reports ps ≡ false → any (λ p. is_free p.state) (map (place_aged (λ f. true) reports) ps) ≡ true
-free_when_aged reports [] e = never true e refl
+free_when_aged reports [] e = cc
 free_when_aged {K} reports (p ∷ ps) e = go p.state e (λ e'. free_when_aged reports ps e')
   where
     go : (q : PlaceState K) → (is_wanted reports q && all_wanted reports ps) ≡ false → (all_wanted reports ps ≡ false → any (λ p. is_free p.state) (map (place_aged (λ f. true) reports) ps) ≡ true) → (is_free (place_aged (λ f. true) reports (record { state = q })).state || any (λ p. is_free p.state) (map (place_aged (λ f. true) reports) ps)) ≡ true
     go Free e rec = refl
-    go (Unstamped k j) e rec = rec e
-    go (Gone k j) e rec = rec e
-    go (Current k b) e rec = rec e
     go (Superseded k b f) e rec = cut (in_report reports b f) e
       where
         cut : (w : Bool) → (w && all_wanted reports ps) ≡ false → (is_free (cond (not w) free (record { state = Superseded k b f })).state || any (λ p. is_free p.state) (map (place_aged (λ f. true) reports) ps)) ≡ true
         cut true e = rec e
         cut false e = refl
+    go _ e rec = rec e
 
 -- a job's draft at a key stands in a place that carries it, and only there
 module _ {K R : Type 0} (order : K → K → Ordering) where
@@ -71,11 +67,9 @@ module _ {K R : Type 0} (order : K → K → Ordering) where
       rest = any (λ p. is_draft_of t p.state && carries order k p.state) ps
 
       go : (q : PlaceState K) → has_draft order t k (versions_in ps rs) ≡ any (λ p. is_draft_of t p.state && carries order k p.state) ps → has_draft order t k (listed (version_in q r) ++ versions_in ps rs) ≡ ((is_draft_of t q && carries order k q) || any (λ p. is_draft_of t p.state && carries order k p.state) ps)
-      go Free i = i
       go (Unstamped q j) i = one (eqb j t && same order q k) (Some r) (draft_at order t k (versions_in ps rs)) rest i
       go (Gone q j) i = one (eqb j t && same order q k) None (draft_at order t k (versions_in ps rs)) rest i
-      go (Current q b) i = i
-      go (Superseded q b f) i = i
+      go _ i = i
 
   -- a place that suits
   unfoldable pub takes : (s : State K R) (t : ℕ) (k : K) → length s.shelf ≡ length s.places → (not (has_draft order t k (summary s).versions) && all_wanted s.control.reports s.places) ≡ false → (n : ℕ) × Takes order s t k n
@@ -140,17 +134,9 @@ module _ {K R : Type 0} (order : K → K → Ordering) where
       at_key t' k' d' e h = let et : t' ≡ t = cc in let ek : k' ≡ k = cc in rw (← et, ← ek) h
 
       go : (c : Call K R) → sent_back order (all_wanted s.control.reports s.places) (summary s) c n ≡ None → change c ≡ drafts t k d → (not (has_draft order t k (summary s).versions) && all_wanted s.control.reports s.places) ≡ false
-      go (Walk t from) h e = differ cc
-      go (Basic BeginReport) h e = differ cc
-      go (Basic BeginJob) h e = differ cc
-      go (Basic (Read t q)) h e = differ cc
-      go (Basic (Look t q)) h e = differ cc
       go (Basic (Put t' k' r)) h e = at_key t'.number k' (Some r) e (passed _ (plain 10) (pass (Basic (Put t' k' r)) h).1.1.1.1.0)
       go (Basic (Remove t' k')) h e = at_key t'.number k' None e (passed _ (plain 10) (pass (Basic (Remove t' k')) h).1.1.1.1.0)
-      go (Basic (Commit t)) h e = differ cc
-      go (Basic (Abort t)) h e = differ cc
-      go (Basic (End t)) h e = differ cc
-      go (Basic (Age limit)) h e = differ cc
+      go _ h e = cc
 
   -- every code that the checks tell is that of a refusal
   pub code_of_refusal : (full : Bool) (s : State K R) (c : Call K R) (n : ℕ) (why : Code) → sent_back order full (summary s) c n ≡ Some why → code (refusal_of why) ≡ why
@@ -171,11 +157,11 @@ module _ {K R : Type 0} (order : K → K → Ordering) where
     where
       go : (x : Option Code) → sent_back order (all_wanted s.control.reports s.places) (summary s) c n ≡ x → Answered s c n
       go (Some why) e =
-          let a : Answer K R = Refused (refusal_of why) in
+          let a : Answer K R = Err (refusal_of why) in
           let told = code_of_refusal (all_wanted s.control.reports s.places) s c n why e in
           record { answer = a; after = s; step = subst (λ x. Outcome order x s (record { call = c; shelf = n; answer = a }) s) (sym e) (record { answer = ap Some told; unchanged = refl }); lengths = el }
       go None e =
-          let a : Answer K R = answered order (summary s) c in
+          let a : Answer K R = Ok (answered order (summary s) c) in
           let m = moves s el (change c) (room_left s c n e) in
           let s' : State K R = record { control = control_after order (summary s) c; places = m.places; shelf = m.shelf } in
           record { answer = a; after = s'; step = subst (λ x. Outcome order x s (record { call = c; shelf = n; answer = a }) s') (sym e) (record { answer = refl; control = refl; moves = m.moves }); lengths = m.lengths }

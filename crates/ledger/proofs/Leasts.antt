@@ -1,17 +1,20 @@
 -- The least of some keys: it does not depend on their order in the list, and it is the one that is there and that no other is below.
 use Rattle.std.proofs.Common.{◌≡◌, Bool, true, false, cond, ◌⊎◌, List, [], ◌∷◌, Some, None, Option, Ordering, Less, Equal, Greater, sym, refl, ap, ◌∙◌, subst, inl, inr}
-use Rattle.std.specs.List.{AllByRecursion}
+use Rattle.std.specs.List.{cons_option, AllByRecursion}
 use Rattle.std.proofs.ByRecursion.{All-weaker}
 use Rattle.std.specs.Ordering.{is_lt}
 use Rattle.keys.specs.Orders.{Total}
 use Rattle.ledger.specs.Words.{less, lesser, least}
 use Rattle.ledger.proofs.Permutations.{Perm, none, skip, swap, then}
-use Rattle.ledger.proofs.Finding.{never, differ}
 
 -- the key is one of these
 abbrev pub In : {K : Type 0} → K → List K → Type 0
 In k [] = ⊥
 In k (q ∷ qs) = (q ≡ k) ⊎ In k qs
+
+pub in_behind : {K : Type 0} (k : K) (o : Option K) (ks : List K) → In k ks → In k (cons_option o ks)
+in_behind k None ks i = i
+in_behind k (Some q) ks i = inr i
 
 -- what holds of each of some keys holds of one of them
 pub all_in : {K : Type 0} (P : K → Type 0) (ks : List K) (k : K) → AllByRecursion P ks → In k ks → P k
@@ -28,8 +31,8 @@ module _ {K : Type 0} (order : K → K → Ordering) (tot : Total order) where
     where
       go : (o : Ordering) → is_lt o ≡ true → o ≡ Less
       go Less h = refl
-      go Equal h = never false refl h
-      go Greater h = never false refl h
+      go Equal h = cc
+      go Greater h = cc
 
   less_passes : (a b c : K) → less order a b ≡ true → less order b c ≡ true → less order a c ≡ true
   less_passes a b c p q = ap is_lt (tot.passes a b c (less_is a b p) (less_is b c q))
@@ -48,9 +51,9 @@ module _ {K : Type 0} (order : K → K → Ordering) (tot : Total order) where
     where
       go : (c : Bool) → less order z x ≡ c → (o : Ordering) → order y x ≡ o → is_lt o ≡ false → less order z x ≡ false
       go false e o eo qo = e
-      go true e Less eo qo = never true qo refl
-      go true e Equal eo qo = never (less order z y) p (rw (tot.same y x eo) e)
-      go true e Greater eo qo = never (less order z y) p (less_passes z x y e (ap is_lt (tot.back y x eo)))
+      go true e Less eo qo = cc
+      go true e Equal eo qo = cc (tot.same y x eo)
+      go true e Greater eo qo = cc (less_passes z x y e (ap is_lt (tot.back y x eo)))
 
   min_assoc : (x y z : K) → min x (min y z) ≡ min (min x y) z
   min_assoc x y z = go (less order z y) (less order y x) refl refl
@@ -82,22 +85,22 @@ module _ {K : Type 0} (order : K → K → Ordering) (tot : Total order) where
   neither_below a b p q = go (order a b) refl
     where
       go : (o : Ordering) → order a b ≡ o → a ≡ b
-      go Less e = never (less order a b) p (ap is_lt e)
+      go Less e = cc (ap is_lt e)
       go Equal e = tot.same a b e
-      go Greater e = never (less order b a) q (ap is_lt (tot.back a b e))
+      go Greater e = cc (ap is_lt (tot.back a b e))
 
   -- the key is one of these, and none of them is below it
   abbrev pub IsLeast : List K → K → Type 0
   IsLeast ks k = In k ks × AllByRecursion (λ q. less order q k ≡ false) ks
 
   pub least_there : (ks : List K) (k : K) → least order ks ≡ Some k → IsLeast ks k
-  least_there [] k e = differ cc
+  least_there [] k e = cc
   least_there (q ∷ qs) k e = go qs (least order qs) refl e (λ m em. least_there qs m em)
     where
       go : (qs : List K) (o : Option K) → least order qs ≡ o → Some (lesser order q o) ≡ Some k → ((m : K) → least order qs ≡ Some m → IsLeast qs m) → IsLeast (q ∷ qs) k
       go [] None eo ek rec = let eq : q ≡ k = cc in subst (IsLeast (q ∷ [])) eq (inl refl, (less_not_itself q, tt))
-      go [] (Some m) eo ek rec = differ cc
-      go (x ∷ xs) None eo ek rec = differ cc
+      go [] (Some m) eo ek rec = cc
+      go (x ∷ xs) None eo ek rec = cc
       go (x ∷ xs) (Some m) eo ek rec = pick (less order m q) refl ek (rec m eo)
         where
           pick : (b : Bool) → less order m q ≡ b → Some (cond b m q) ≡ Some k → IsLeast (x ∷ xs) m → IsLeast (q ∷ (x ∷ xs)) k

@@ -1,4 +1,3 @@
-mod Spans
 pub mod ButFreed
 pub mod Checks
 pub mod Codes

@@ -1,15 +1,15 @@
 -- The ledger of a run is its model: what arguments and answers tell is what the calls determine.
 -- By induction on the run: a granted call changes both alike, a refused one and an age call neither.
-use Rattle.std.proofs.Common.{◌≡◌, ℕ, ◌+◌, Bool, true, false, cond, not, ◌&&◌, eqb, List, [], ◌∷◌, ◌++◌, map, Some, None, filter, Option, Ordering, sym, refl, ap, subst}
+use Rattle.std.proofs.Common.{◌≡◌, ℕ, ◌+◌, Bool, true, false, cond, not, ◌&&◌, eqb, List, [], ◌∷◌, ◌++◌, map, Some, None, filter, Option, Ok, Ordering, sym, refl, ap, subst}
 use Rattle.std.proofs.lemmas.List.{map-append}
 use Rattle.keys.specs.Orders.{Total}
 use Rattle.keys.specs.Refusals.{Code}
 use Rattle.ledger.specs.declared.call.Call.{Call}
 use Rattle.ledger.specs.declared.call.Call.TheVariants.{Walk, Basic}
-use Rattle.ledger.specs.declared.call.BasicCall.TheVariants.{BeginReport, BeginJob, Read, Look, Put, Remove, Commit, Abort, End, Age}
+use Rattle.ledger.specs.declared.call.BasicCall.TheVariants.{BeginReport, BeginJob, Look, Put, Remove, Commit, Abort}
 use Rattle.ledger.specs.Versions.{Version, finds_current}
 use Rattle.ledger.specs.Control.{Job, has_key, holding, jobs_but}
-use Rattle.ledger.specs.Calls.{Exchange, change, is_age, refusal, granted}
+use Rattle.ledger.specs.Calls.{Exchange, change, is_age, granted}
 use Rattle.ledger.specs.Ledger.{Ledger, noted, ledger}
 use Rattle.ledger.specs.Steps.{State, Summary, answered, Numbers, Run}
 use Rattle.ledger.proofs.Model.{met, versions_after, moved_on, next_model}
@@ -35,23 +35,9 @@ tickets_holding : {K : Type 0} (order : K → K → Ordering) (t : ℕ) (k : K) 
 tickets_holding order t k [] = refl
 tickets_holding {K} order t k (j ∷ js) = go (eqb j.ticket t && not (has_key order k j.keys)) (tickets_holding order t k js)
   where
-    go : (b : Bool) → tickets (holding order t k js) ≡ tickets js → (cond {A = Job K} b (record { ticket = j.ticket; keys = j.keys ++ (k ∷ []) }) j).ticket ∷ tickets (holding order t k js) ≡ j.ticket ∷ tickets js
+    go : (b : Bool) → tickets (holding order t k js) ≡ tickets js → (cond {A = Job K} b (record j { keys = j.keys ++ (k ∷ []) }) j).ticket ∷ tickets (holding order t k js) ≡ j.ticket ∷ tickets js
     go true e = ap (λ ts. j.ticket ∷ ts) e
     go false e = ap (λ ts. j.ticket ∷ ts) e
-
--- a granted answer is none of the refusals
-pub answered_granted : {K R : Type 0} (order : K → K → Ordering) (b : Summary K R) (c : Call K R) → refusal (answered order b c) ≡ None
-answered_granted order b (Walk t from) = refl
-answered_granted order b (Basic BeginReport) = refl
-answered_granted order b (Basic BeginJob) = refl
-answered_granted order b (Basic (Read t k)) = refl
-answered_granted order b (Basic (Look t k)) = refl
-answered_granted order b (Basic (Put t k r)) = refl
-answered_granted order b (Basic (Remove t k)) = refl
-answered_granted order b (Basic (Commit t)) = refl
-answered_granted order b (Basic (Abort t)) = refl
-answered_granted order b (Basic (End t)) = refl
-answered_granted order b (Basic (Age limit)) = refl
 
 module _ {K R : Type 0} (order : K → K → Ordering) (tot : Total order) where
   -- the same ledger, but for an equation of its jobs
@@ -59,13 +45,12 @@ module _ {K R : Type 0} (order : K → K → Ordering) (tot : Total order) where
   with_jobs b vs stamp js js' e = λ i. record { stamp = stamp; reports = b.control.reports; jobs = sym e i; versions = vs }
 
   -- a granted call changes the ledger as it changes the model
-  noted_after : (b : Summary K R) (c : Call K R) → noted order (ledger_of b) c (answered order b c) ≡ ledger_of (moved_on order None b c)
+  noted_after : (b : Summary K R) (c : Call K R) → noted order (ledger_of b) c (Ok (answered order b c)) ≡ ledger_of (moved_on order None b c)
   noted_after b (Walk t from) = refl
   noted_after b (Basic BeginReport) = refl
   noted_after b (Basic BeginJob) =
       let begun : Job K = record { ticket = b.control.next; keys = [] } in
       with_jobs b b.versions b.control.stamp (tickets b.control.jobs ++ (b.control.next ∷ [])) (tickets (b.control.jobs ++ (begun ∷ []))) (map-append (λ j. j.ticket) b.control.jobs (begun ∷ []))
-  noted_after b (Basic (Read t k)) = refl
   noted_after b (Basic (Look t k)) = go (finds_current order t.number k b.versions)
     where
       go : (x : Bool) → ledger_of b ≡ record { stamp = b.control.stamp; reports = b.control.reports; jobs = tickets (cond x (holding order t.number k b.control.jobs) b.control.jobs); versions = b.versions }
@@ -75,13 +60,12 @@ module _ {K R : Type 0} (order : K → K → Ordering) (tot : Total order) where
   noted_after b (Basic (Remove t k)) = with_jobs b (versions_after order b (change (Basic (Remove t k)))) b.control.stamp (tickets b.control.jobs) (tickets (holding order t.number k b.control.jobs)) (tickets_holding order t.number k b.control.jobs)
   noted_after b (Basic (Commit t)) = with_jobs b (versions_after order b (change (Basic (Commit t)))) (b.control.stamp + 1) (filter (λ j. not (eqb j t.number)) (tickets b.control.jobs)) (tickets (jobs_but t.number b.control.jobs)) (tickets_but t.number b.control.jobs)
   noted_after b (Basic (Abort t)) = with_jobs b (versions_after order b (change (Basic (Abort t)))) b.control.stamp (filter (λ j. not (eqb j t.number)) (tickets b.control.jobs)) (tickets (jobs_but t.number b.control.jobs)) (tickets_but t.number b.control.jobs)
-  noted_after b (Basic (End t)) = refl
-  noted_after b (Basic (Age limit)) = refl
+  noted_after b _ = refl
 
   -- a call that the model replied to
   replied_noted : (b : Summary K R) (c : Call K R) (met : Option Code) → cond (granted (replied order met b c)) (noted order (ledger_of b) c (replied order met b c)) (ledger_of b) ≡ ledger_of (moved_on order met b c)
   replied_noted b c (Some why) = refl
-  replied_noted b c None = rw (answered_granted order b c) (noted_after b c)
+  replied_noted b c None = noted_after b c
 
   pub ledger_is : (o : Numbers) (past : List (Exchange K R)) (s : State K R) → Run order o past s → ledger order o.stamp past ≡ ledger_of (model_of order tot o past)
   ledger_is o [] s r = refl

@@ -8,12 +8,12 @@ use Rattle.std.proofs.lemmas.Bool.{eqb-true, ne_eqb, not-false, and_parts, and_f
 use Rattle.keys.specs.Orders.{Total}
 use Rattle.ledger.specs.Words.{when, or_else, picked, first, same}
 use Rattle.ledger.specs.Versions.{Version, draft, committed, drafted_by, draft_in, draft_at, has_draft, current_in, current_at, seen_in, seen_at, drafted, settled, settled_all, without_drafts}
-use Rattle.ledger.proofs.Finding.{never, differ, found, found_when, and_then, first_picked, first_kept, none_found, all_of, all_none}
+use Rattle.ledger.proofs.Finding.{found, found_when, and_then, first_picked, first_kept, none_found, all_of, all_none}
 use Rattle.ledger.proofs.Settling.{same_is, draft_record, settled_draft, settled_seen, settled_there, settled_elsewhere}
 
 -- where at most one draft is found, its record is found first
 first_record : {X R : Type 0} (f : X → Option (Option R)) (xs : List X) (d : Option R) → count_by (found f) xs ≤ 1 → first f xs ≡ Some d → first (λ x. draft_record (f x)) xs ≡ d
-first_record f [] d c e = differ cc
+first_record f [] d c e = cc
 first_record {X} {R} f (x ∷ xs) d c e = go (f x) refl e (λ c' e'. first_record f xs d c' e')
   where
     total : count_by (found f) (x ∷ xs) ≡ cond (found f x) 1 0 + count_by (found f) xs
@@ -25,7 +25,7 @@ first_record {X} {R} f (x ∷ xs) d c e = go (f x) refl e (λ c' e'. first_recor
       where
         alone : (o : Option (Option R)) → is_some o ≡ false → first (λ x. draft_record (f x)) ys ≡ None → or_else (draft_record o) (first (λ x. draft_record (f x)) ys) ≡ None
         alone None p q = q
-        alone (Some d) p q = never true p refl
+        alone (Some d) p q = cc
 
     go : (o : Option (Option R)) → f x ≡ o → or_else o (first f xs) ≡ Some d → (count_by (found f) xs ≤ 1 → first f xs ≡ Some d → first (λ x. draft_record (f x)) xs ≡ d) → or_else (draft_record (f x)) (first (λ x. draft_record (f x)) xs) ≡ d
     go None ef e rec = let z : ◌≡◌ {A = ℕ} (cond (found f x) 1 0) 0 = rw ef in rw ef (rec (omega (arith, total)) e)
@@ -52,7 +52,7 @@ module _ {K R : Type 0} (order : K → K → Ordering) (tot : Total order) where
       xk = same_is order tot x k (and_parts (eqb i t) (same order x k) replaced).1
 
       go : (y : Bool) → eqb i j ≡ y → (z : Bool) → same order x q ≡ z → when (y && z) d ≡ None
-      go true ey true ez = never (eqb t j && same order k q) ne (and_from (eqb t j) (same order k q) (subst (λ v. eqb v j ≡ true) it ey) (subst (λ v. same order v q ≡ true) xk ez))
+      go true ey true ez = cc (and_from (eqb t j) (same order k q) (subst (λ v. eqb v j ≡ true) it ey) (subst (λ v. same order v q ≡ true) xk ez))
       go true ey false ez = refl
       go false ey z ez = refl
 
@@ -72,7 +72,7 @@ module _ {K R : Type 0} (order : K → K → Ordering) (tot : Total order) where
     where
       only_drafts : (v : Version K R) → not (is_some (draft_in order t k v)) ≡ false → f v ≡ None
       only_drafts (draft j q d) e = none j q d
-      only_drafts (committed q r b x) e = never true e refl
+      only_drafts (committed q r b x) e = cc
 
   pub current_drafted : (t : ℕ) (k : K) (d : Option R) (vs : List (Version K R)) (q : K) → current_at order q (drafted order t k d vs) ≡ current_at order q vs
   current_drafted t k d vs q = committed_drafted (current_in order q) (λ j x y. refl) t k d vs
@@ -97,7 +97,7 @@ module _ {K R : Type 0} (order : K → K → Ordering) (tot : Total order) where
     where
       only_drafts : (v : Version K R) → not (drafted_by t v) ≡ false → f v ≡ None
       only_drafts (draft j q d) e = none j q d
-      only_drafts (committed q r b x) e = never true e refl
+      only_drafts (committed q r b x) e = cc
 
   pub current_aborted : (t : ℕ) (vs : List (Version K R)) (q : K) → current_at order q (without_drafts order t vs) ≡ current_at order q vs
   current_aborted t vs q = committed_aborted (current_in order q) (λ j x y. refl) t vs

@@ -18,7 +18,7 @@ use Rattle.ledger.specs.Calls.{Change, keeps, drafts, commits, aborts, ages, cha
 use Rattle.ledger.specs.Steps.{State, Summary, summary, versions_in, sent_back, control_after}
 use Rattle.ledger.proofs.Permutations.{perm_sum}
 use Rattle.ledger.proofs.ButFreed.{Freeable, AllButFreed}
-use Rattle.ledger.proofs.Finding.{never, differ, found, when_off, first_same, first_append, first_none, first_perm, or_none, sum_mono, count_none}
+use Rattle.ledger.proofs.Finding.{found, when_off, first_same, first_append, first_none, first_perm, or_none, sum_mono, count_none}
 
 -- as many wanted versions as places
 abbrev pub full : {K R : Type 0} → Summary K R → Bool
@@ -65,27 +65,27 @@ pub record Agrees {K R : Type 0} (b : Summary K R) (s : State K R) : Type 0 wher
 
 -- a span that holds no open report's stamp does not hold this one's
 pub not_in_report : (t s b f : ℕ) (reports : List Report) → report_at t reports ≡ Some s → in_report reports b f ≡ false → spans b (Some f) s ≡ false
-not_in_report t s b f [] e h = differ cc
+not_in_report t s b f [] e h = cc
 not_in_report t s b f (r ∷ rs) e h = go (eqb r.ticket t) e (spans b (Some f) r.stamp) refl h (λ e' h'. not_in_report t s b f rs e' h')
   where
     go : (x : Bool) → or_else (when x r.stamp) (report_at t rs) ≡ Some s → (y : Bool) → spans b (Some f) r.stamp ≡ y → (y || in_report rs b f) ≡ false → (report_at t rs ≡ Some s → in_report rs b f ≡ false → spans b (Some f) s ≡ false) → spans b (Some f) s ≡ false
-    go x e true ey h rec = never true h refl
+    go x e true ey h rec = cc
     go true e false ey h rec = let same_stamp : r.stamp ≡ s = cc in rw (← same_stamp) ey
     go false e false ey h rec = rec e h
 
 module _ {K R : Type 0} (order : K → K → Ordering) where
   pub freeable_no_draft : (reports : List Report) (t : ℕ) (k : K) (v : Version K R) → Freeable reports v → draft_in order t k v ≡ None
-  freeable_no_draft reports t k (draft j q d) h = never false refl h.0
+  freeable_no_draft reports t k (draft j q d) h = cc
   freeable_no_draft reports t k (committed q r b f) h = refl
 
   freeable_not_current : (reports : List Report) (k : K) (v : Version K R) → Freeable reports v → current_in order k v ≡ None
   freeable_not_current reports k (draft j q d) h = refl
-  freeable_not_current reports k (committed q r b None) h = never false refl h.0
+  freeable_not_current reports k (committed q r b None) h = cc
   freeable_not_current reports k (committed q r b (Some f)) h = refl
 
   freeable_not_seen : (t s : ℕ) (reports : List Report) → report_at t reports ≡ Some s → (k : K) (v : Version K R) → Freeable reports v → seen_in order s k v ≡ None
   freeable_not_seen t s reports o k (draft j q d) h = refl
-  freeable_not_seen t s reports o k (committed q r b None) h = never false refl h.0
+  freeable_not_seen t s reports o k (committed q r b None) h = cc
   freeable_not_seen t s reports o k (committed q r b (Some f)) h = when_off (same order q k) (spans b (Some f) s) r (not_in_report t s b f reports o h.1)
 
   -- what is current is what the present stamp, and any later one, sees

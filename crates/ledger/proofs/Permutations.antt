@@ -1,10 +1,10 @@
 -- Lists with the same elements in any order, and what does not depend on the order: sums, what holds of each, filters.
 -- The places of a store hold the versions of the ledger in an order of their own; this is all that is needed to see past it.
-use Rattle.std.proofs.Common.{◌≡◌, ℕ, Bool, true, false, cond, not, List, [], ◌∷◌, ◌++◌, sum_by, filter, sym, refl, ap, ◌∙◌, subst, arith}
-use Rattle.std.specs.List.{flat_map, AllByRecursion}
+use Rattle.std.proofs.Common.{◌≡◌, ℕ, Bool, true, false, cond, not, List, [], ◌∷◌, ◌++◌, sum_by, Some, None, filter, Option, sym, refl, ap, ◌∙◌, subst, arith}
+use Rattle.std.specs.List.{cons_option, AllByRecursion}
 use Rattle.std.proofs.lemmas.List.{append-nil, append_assoc}
 use Rattle.std.proofs.lemmas.List.Sums.{sum_by-cons}
-use Rattle.ledger.specs.Words.{when, listed, picked}
+use Rattle.ledger.specs.Words.{when, picked}
 
 pub data Perm {X : Type 0} : List X → List X → Type 0 where
   none : Perm [] []
@@ -67,26 +67,34 @@ perm_sum f (swap {x} {y} {xs} {ys} p) =
     omega (arith, sum_by-cons f x (y ∷ xs), sum_by-cons f y xs, sum_by-cons f y (x ∷ ys), sum_by-cons f x ys)
 perm_sum f (then p q) = perm_sum f p ∙ perm_sum f q
 
-pub perm_joined : {X Y : Type 0} (f : X → List Y) {xs ys : List X} → Perm xs ys → Perm (flat_map f xs) (flat_map f ys)
-perm_joined f none = none
-perm_joined f (skip {x} p) = perm_append_left (f x) (perm_joined f p)
-perm_joined f (swap {x} {y} {xs} {ys} p) =
-    then (perm_shift (f x) (f y) (flat_map f xs) (f y ++ flat_map f xs) (perm_refl (f y ++ flat_map f xs)))
-    (perm_append_left (f y) (perm_append_left (f x) (perm_joined f p)))
-perm_joined f (then p q) = then (perm_joined f p) (perm_joined f q)
+pub perm_picked : {X Y : Type 0} (g : X → Option Y) {xs ys : List X} → Perm xs ys → Perm (picked g xs) (picked g ys)
+perm_picked g none = none
+perm_picked {X} {Y} g (skip {x} {xs} {ys} p) = go (g x) (perm_picked g p)
+  where
+    go : (o : Option Y) → Perm (picked g xs) (picked g ys) → Perm (cons_option o (picked g xs)) (cons_option o (picked g ys))
+    go None q = q
+    go (Some y) q = skip q
+perm_picked {X} {Y} g (swap {x} {y} {xs} {ys} p) = go (g x) (g y) (perm_picked g p)
+  where
+    go : (o p : Option Y) → Perm (picked g xs) (picked g ys) → Perm (cons_option o (cons_option p (picked g xs))) (cons_option p (cons_option o (picked g ys)))
+    go None None q = q
+    go None (Some y) q = skip q
+    go (Some x) None q = skip q
+    go (Some x) (Some y) q = swap q
+perm_picked g (then p q) = then (perm_picked g p) (perm_picked g q)
 
 -- a filter picks what passes
 pub picked_kept : {X : Type 0} (test : X → Bool) (xs : List X) → picked (λ x. when (test x) x) xs ≡ filter test xs
 picked_kept test [] = refl
 picked_kept {X} test (x ∷ xs) = go (test x) (picked_kept test xs)
   where
-    go : (b : Bool) → picked (λ x. when (test x) x) xs ≡ filter test xs → listed (when b x) ++ picked (λ x. when (test x) x) xs ≡ cond b (x ∷ filter test xs) (filter test xs)
+    go : (b : Bool) → picked (λ x. when (test x) x) xs ≡ filter test xs → cons_option (when b x) (picked (λ x. when (test x) x) xs) ≡ cond b (x ∷ filter test xs) (filter test xs)
     go true e = ap (λ zs. x ∷ zs) e
     go false e = e
 
 pub perm_kept : {X : Type 0} (test : X → Bool) (xs ys : List X) → Perm xs ys → Perm (filter test xs) (filter test ys)
 perm_kept test xs ys p =
-    subst (λ zs. Perm zs (filter test ys)) (picked_kept test xs) (subst (λ zs. Perm (picked (λ x. when (test x) x) xs) zs) (picked_kept test ys) (perm_joined (λ x. listed (when (test x) x)) p))
+    subst (λ zs. Perm zs (filter test ys)) (picked_kept test xs) (subst (λ zs. Perm (picked (λ x. when (test x) x) xs) zs) (picked_kept test ys) (perm_picked (λ x. when (test x) x) p))
 
 -- a list falls into what passes and what does not
 pub kept_both : {X : Type 0} (test : X → Bool) (xs : List X) → Perm (filter test xs ++ filter (λ x. not (test x)) xs) xs

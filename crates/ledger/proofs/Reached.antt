@@ -10,7 +10,7 @@ use Rattle.ledger.specs.Versions.{Version, draft_in, seen_in}
 use Rattle.ledger.specs.Calls.{Exchange}
 use Rattle.ledger.specs.Steps.{State, Summary, version_in, versions_in, Numbers, Run}
 use Rattle.ledger.proofs.Permutations.{perm_all, perm_sym, perm_sum}
-use Rattle.ledger.proofs.Finding.{differ, found, and_then, all_append_parts}
+use Rattle.ledger.proofs.Finding.{found, and_then, all_append_parts}
 use Rattle.ledger.proofs.Model.{InTime, Sound, Agrees}
 use Rattle.ledger.proofs.Runs.{model_of, sound_model, run_agrees}
 use Rattle.ledger.proofs.Full.{model_places}
@@ -37,7 +37,7 @@ module _ {K R : Type 0} (order : K → K → Ordering) (tot : Total order) where
 
 -- what is found counts
 pub some_counts : {X Y : Type 0} (f : X → Option Y) (xs : List X) (y : Y) → first f xs ≡ Some y → 1 ≤ count_by (found f) xs
-some_counts f [] y e = differ cc
+some_counts f [] y e = cc
 some_counts {X} {Y} f (x ∷ xs) y e = go (f x) refl e (λ e'. some_counts f xs y e')
   where
     go : (o : Option Y) → f x ≡ o → or_else o (first f xs) ≡ Some y → (first f xs ≡ Some y → 1 ≤ count_by (found f) xs) → 1 ≤ count_by (found f) (x ∷ xs)
@@ -46,15 +46,15 @@ some_counts {X} {Y} f (x ∷ xs) y e = go (f x) refl e (λ e'. some_counts f xs 
 
 -- where at most one version is found, a place that holds it shows what is found
 pub found_at : {K R Y : Type 0} (f : Version K R → Option Y) (ps : List (Place K)) (rs : List R) (n : ℕ) (p : Place K) (r : R) (y : Y) → slice_get ps n ≡ Some p → slice_get rs n ≡ Some r → and_then (version_in p.state r) f ≡ Some y → count_by (found f) (versions_in ps rs) ≤ 1 → first f (versions_in ps rs) ≡ Some y
-found_at f [] rs n p r y ep er h c = differ cc
-found_at f (q ∷ ps) [] n p r y ep er h c = differ cc
+found_at f [] rs n p r y ep er h c = cc
+found_at f (q ∷ ps) [] n p r y ep er h c = cc
 found_at {K} {R} {Y} f (q ∷ ps) (x ∷ rs) zero p r y ep er h c =
     let eq : q ≡ p = cc in
     let ex : x ≡ r = cc in
     rw (eq, ex) (heads (version_in p.state r) h)
   where
     heads : (o : Option (Version K R)) → and_then o f ≡ Some y → first f (listed o ++ versions_in ps rs) ≡ Some y
-    heads None e = differ cc
+    heads None e = cc
     heads (Some v) e = rw e
 found_at {K} {R} {Y} f (q ∷ ps) (x ∷ rs) (suc n) p r y ep er h c =
     let total = sum_by-append (λ v. cond (found f v) 1 0) (listed (version_in q.state x)) (versions_in ps rs) in

@@ -3,7 +3,7 @@
 -- commit of a job that put or removed it left there. What an open report's stamp sees is what had been left when its ticket was given out.
 -- Each call keeps this: a draft comes in front of the job's earlier ones; a commit makes the job's drafts current and leaves what earlier
 -- stamps see; a report begins at the present stamp, which sees what is current. Tickets are below the next one, so a new one is nobody's.
-use Rattle.std.proofs.Common.{◌≡◌, ℕ, ◌+◌, ◌<◌, ◌≤◌, Bool, true, false, cond, not, ◌&&◌, ◌||◌, eqb, ◌⊎◌, List, [], ◌∷◌, ◌++◌, is_some, Some, None, Option, Ordering, sym, refl, ap, ◌∙◌, inl, inr, arith}
+use Rattle.std.proofs.Common.{◌≡◌, ℕ, ◌+◌, ◌<◌, ◌≤◌, Bool, true, false, cond, not, ◌&&◌, ◌||◌, eqb, ◌⊎◌, List, [], ◌∷◌, ◌++◌, is_some, Some, None, Option, Ok, Err, Ordering, sym, refl, ap, ◌∙◌, inl, inr, arith}
 use Rattle.std.specs.List.{AllByRecursion}
 use Rattle.std.proofs.ByRecursion.{All-push, all_kept_by, All-weaker}
 use Rattle.std.proofs.lemmas.Bool.{eqb-true, eq-eqb, ne_eqb, eqb-false}
@@ -13,7 +13,7 @@ use Rattle.ledger.specs.declared.call.TicketId.{TicketId}
 use Rattle.ledger.specs.declared.call.Call.{Call}
 use Rattle.ledger.specs.declared.call.Call.TheVariants.{Walk, Basic}
 use Rattle.ledger.specs.declared.call.BasicCall.TheVariants.{BeginReport, BeginJob, Read, Look, Put, Remove, Commit, Abort, End, Age}
-use Rattle.ledger.specs.declared.answer.Answer.TheVariants.{Refused, Aged}
+use Rattle.ledger.specs.declared.answer.Granted.TheVariants.{Aged}
 use Rattle.ledger.specs.declared.answer.Refusal.{Refusal}
 use Rattle.ledger.specs.declared.place.Report.{Report}
 use Rattle.ledger.specs.Words.{when, or_else, any, first, same}
@@ -22,7 +22,7 @@ use Rattle.ledger.specs.Control.{Job, Control, job_at, keys_of, has_key, holding
 use Rattle.ledger.specs.Calls.{Exchange, change, is_age}
 use Rattle.ledger.specs.Steps.{Summary, job_open, stamp_left, answered}
 use Rattle.ledger.specs.Laws.{before, last_draft, left}
-use Rattle.ledger.proofs.Finding.{never, all_both}
+use Rattle.ledger.proofs.Finding.{all_both}
 use Rattle.ledger.proofs.Model.{met, moved_on, Sound, current_is_seen}
 use Rattle.ledger.proofs.Lookups.{draft_drafted, current_drafted, seen_drafted, draft_settled, current_settled, seen_settled, draft_aborted, current_aborted, seen_aborted}
 use Rattle.ledger.proofs.Runs.{is_open, is_own}
@@ -44,7 +44,7 @@ open_push j [] i e = go (eqb i.ticket j) refl e
   where
     go : (b : Bool) → eqb i.ticket j ≡ b → (b || false) ≡ true → (false ≡ true) ⊎ (i.ticket ≡ j)
     go true q e = inr (eqb-true i.ticket j q)
-    go false q e = never false refl e
+    go false q e = cc
 open_push {K} j (h ∷ js) i e = go (eqb h.ticket j) e (λ e'. open_push j js i e')
   where
     go : (b : Bool) → (b || open_job j (js ++ (i ∷ []))) ≡ true → (open_job j (js ++ (i ∷ [])) ≡ true → (open_job j js ≡ true) ⊎ (i.ticket ≡ j)) → ((b || open_job j js) ≡ true) ⊎ (i.ticket ≡ j)
@@ -52,7 +52,7 @@ open_push {K} j (h ∷ js) i e = go (eqb h.ticket j) e (λ e'. open_push j js i 
     go false e rec = rec e
 
 open_but : {K : Type 0} (t j : ℕ) (js : List (Job K)) → open_job j (jobs_but t js) ≡ true → (open_job j js ≡ true) × (j ≡ t → ⊥)
-open_but t j [] e = never false refl e
+open_but t j [] e = cc
 open_but {K} t j (i ∷ js) e = go (eqb i.ticket t) refl (eqb i.ticket j) refl e (λ e'. open_but t j js e')
   where
     go : (x : Bool) → eqb i.ticket t ≡ x → (y : Bool) → eqb i.ticket j ≡ y → open_job j (cond (not x) (i ∷ jobs_but t js) (jobs_but t js)) ≡ true → (open_job j (jobs_but t js) ≡ true → (open_job j js ≡ true) × (j ≡ t → ⊥)) → ((y || open_job j js) ≡ true) × (j ≡ t → ⊥)
@@ -65,7 +65,7 @@ open_holding : {K : Type 0} (order : K → K → Ordering) (t : ℕ) (k : K) (j 
 open_holding order t k j [] = refl
 open_holding {K} order t k j (i ∷ js) = rw (open_holding order t k j js) (go (eqb i.ticket t && not (has_key order k i.keys)))
   where
-    go : (b : Bool) → (eqb (cond {A = Job K} b (record { ticket = i.ticket; keys = i.keys ++ (k ∷ []) }) i).ticket j || open_job j js) ≡ (eqb i.ticket j || open_job j js)
+    go : (b : Bool) → (eqb (cond {A = Job K} b (record i { keys = i.keys ++ (k ∷ []) }) i).ticket j || open_job j js) ≡ (eqb i.ticket j || open_job j js)
     go true = refl
     go false = refl
 
@@ -99,7 +99,7 @@ module _ {K R : Type 0} (order : K → K → Ordering) (tot : Total order) where
   module _ (b : Summary K R) (past : List (Exchange K R)) (m : Remembers b past) (so : Sound order b.control.stamp b.versions) where
     -- the call with the model's answer
     abbrev newest : Call K R → ℕ → Exchange K R
-    newest c n = record { call = c; shelf = n; answer = answered order b c }
+    newest c n = record { call = c; shelf = n; answer = Ok (answered order b c) }
 
     -- a job that is live after the job t is closed was live before, and is another one
     live_but : (t j : ℕ) → open_job t b.control.jobs ≡ true → (open_job j (jobs_but t b.control.jobs) ≡ true) ⊎ (b.control.next ≤ j) → Live b.control j × (j ≡ t → ⊥)
@@ -229,11 +229,11 @@ module _ {K R : Type 0} (order : K → K → Ordering) (tot : Total order) where
       earlier = all_kept_by (λ r. not (eqb r.ticket t.number)) (Earlier b.control.stamp b.control.next) b.control.reports m.earlier;
       jobs = m.jobs;
     }
-    remembers (Basic (Age limit)) n y g = never true y refl
+    remembers (Basic (Age limit)) n y g = cc
 
     -- a refused call, and an age call
-    pub remembers_refused : (c : Call K R) (n : ℕ) (why : Refusal) → Remembers b (record { call = c; shelf = n; answer = Refused why } ∷ past)
+    pub remembers_refused : (c : Call K R) (n : ℕ) (why : Refusal) → Remembers b (record { call = c; shelf = n; answer = Err why } ∷ past)
     remembers_refused c n why = record { drafts = m.drafts; current = m.current; seen = m.seen; earlier = m.earlier; jobs = m.jobs }
 
-    pub remembers_age : (limit n looked freed : ℕ) → Remembers b (record { call = Basic (Age limit); shelf = n; answer = Aged looked freed } ∷ past)
+    pub remembers_age : (limit n looked freed : ℕ) → Remembers b (record { call = Basic (Age limit); shelf = n; answer = Ok (Aged looked freed) } ∷ past)
     remembers_age limit n looked freed = record { drafts = m.drafts; current = m.current; seen = m.seen; earlier = m.earlier; jobs = m.jobs }

@@ -1,7 +1,8 @@
 -- Every run agrees with the model that its calls other than age determine, and answers those calls as the model does.
 -- By induction on the run: a store that agrees meets the same refusal, finds the same versions, and agrees again; an age call leaves the model as it is.
-use Rattle.std.proofs.Common.{◌≡◌, ℕ, zero, suc, Bool, true, false, cond, not, eqb, List, [], ◌∷◌, ◌++◌, length, replicate, is_some, Some, None, Option, Ordering, unwrap_or, sym, refl, ap, ◌∙◌, subst, arith}
+use Rattle.std.proofs.Common.{◌≡◌, ℕ, zero, suc, Bool, true, false, cond, not, eqb, List, [], ◌∷◌, ◌++◌, length, replicate, is_some, Some, None, Option, Ok, Err, Ordering, unwrap_or, sym, refl, ap, ◌∙◌, subst, arith}
 use Rattle.std.proofs.lemmas.List.{append-nil, length-replicate}
+use Rattle.std.proofs.lemmas.List.Elements.{filter_map-append}
 use Rattle.std.proofs.ByRecursion.{All-weaker}
 use Rattle.std.proofs.lemmas.Bool.{eqb-true}
 use Rattle.keys.specs.Orders.{Total}
@@ -9,19 +10,17 @@ use Rattle.keys.specs.Refusals.{Code, plain}
 use Rattle.ledger.specs.declared.call.TicketId.{TicketId}
 use Rattle.ledger.specs.declared.call.Call.{Call}
 use Rattle.ledger.specs.declared.call.Call.TheVariants.{Walk, Basic}
-use Rattle.ledger.specs.declared.call.BasicCall.TheVariants.{BeginReport, BeginJob, Read, Look, Put, Remove, Commit, Abort, End, Age}
-use Rattle.ledger.specs.declared.answer.Answer.{Answer}
-use Rattle.ledger.specs.declared.answer.Answer.TheVariants.{Refused}
+use Rattle.ledger.specs.declared.call.BasicCall.TheVariants.{BeginReport, BeginJob, Read, Look, Commit, Age}
 use Rattle.ledger.specs.declared.place.Report.{Report}
-use Rattle.ledger.specs.Words.{when, listed, picked, first, least}
+use Rattle.ledger.specs.Words.{when, picked, first, least}
 use Rattle.ledger.specs.Places.{free}
 use Rattle.ledger.specs.Versions.{Version, draft, committed, key_seen_in, keys_seen}
 use Rattle.ledger.specs.Control.{Control, of_store, report_at, stamp_of}
-use Rattle.ledger.specs.Calls.{Exchange, change, is_age, receives_shelf}
+use Rattle.ledger.specs.Calls.{Answer, Exchange, change, is_age, receives_shelf}
 use Rattle.ledger.specs.Steps.{State, Summary, summary, versions_in, shelf_fits, answered, Outcome, Step, Numbers, first_control, Run}
 use Rattle.ledger.specs.Laws.{but_for_age, asked}
-use Rattle.ledger.proofs.Permutations.{then, perm_eq, perm_joined}
-use Rattle.ledger.proofs.Finding.{never, differ, joined_append, picked_none}
+use Rattle.ledger.proofs.Permutations.{then, perm_eq, perm_picked}
+use Rattle.ledger.proofs.Finding.{picked_none}
 use Rattle.ledger.proofs.ButFreed.{Freeable}
 use Rattle.ledger.proofs.Codes.{refusal_of, refused_as}
 use Rattle.ledger.proofs.Leasts.{least_perm}
@@ -31,7 +30,7 @@ use Rattle.ledger.proofs.Following.{same_met, same_control, agrees_after}
 
 -- a ticket that passed its check is open
 pub is_open : {X : Type 0} (o : Option X) (rest : List (Option Code)) → first (λ check. check) (when (not (is_some o)) (plain 4) ∷ rest) ≡ None → (x : X) × (o ≡ Some x)
-is_open None rest h = differ cc
+is_open None rest h = cc
 is_open (Some x) rest h = (x, refl)
 
 -- and it is one of this store
@@ -40,54 +39,36 @@ is_own {K} {X} c t o x e = go (eqb t.store c.store) refl e
   where
     go : (b : Bool) → eqb t.store c.store ≡ b → cond b o None ≡ Some x → (t.store ≡ c.store) × (o ≡ Some x)
     go true eb e = (eqb-true t.store c.store eb, e)
-    go false eb e = differ cc
+    go false eb e = cc
 
 -- what the model answers, refused or granted
 abbrev pub replied : {K R : Type 0} → (K → K → Ordering) → Option Code → Summary K R → Call K R → Answer K R
-replied order (Some why) b c = Refused (refusal_of why)
-replied order None b c = answered order b c
+replied order (Some why) b c = Err (refusal_of why)
+replied order None b c = Ok (answered order b c)
 
 module _ {K R : Type 0} (order : K → K → Ordering) where
   -- only read, look and put take notice of the shelf
   pub shelf_ignored : (b : Summary K R) (c : Call K R) (n : ℕ) → met order b c (unwrap_or (when (receives_shelf c) n) 0) ≡ met order b c n
-  shelf_ignored b (Walk t from) n = refl
-  shelf_ignored b (Basic BeginReport) n = refl
-  shelf_ignored b (Basic BeginJob) n = refl
-  shelf_ignored b (Basic (Read t k)) n = refl
-  shelf_ignored b (Basic (Look t k)) n = refl
-  shelf_ignored b (Basic (Put t k r)) n = refl
-  shelf_ignored b (Basic (Remove t k)) n = refl
-  shelf_ignored b (Basic (Commit t)) n = refl
-  shelf_ignored b (Basic (Abort t)) n = refl
-  shelf_ignored b (Basic (End t)) n = refl
   shelf_ignored b (Basic (Age limit)) n = refl
+  shelf_ignored b _ n = refl
 
 -- an age call is one
 pub age_is : {K R : Type 0} (c : Call K R) → is_age (change c) ≡ true → (limit : ℕ) × (c ≡ Basic (Age limit))
-age_is (Walk t from) h = never false refl h
-age_is (Basic BeginReport) h = never false refl h
-age_is (Basic BeginJob) h = never false refl h
-age_is (Basic (Read t k)) h = never false refl h
-age_is (Basic (Look t k)) h = never false refl h
-age_is (Basic (Put t k r)) h = never false refl h
-age_is (Basic (Remove t k)) h = never false refl h
-age_is (Basic (Commit t)) h = never false refl h
-age_is (Basic (Abort t)) h = never false refl h
-age_is (Basic (End t)) h = never false refl h
 age_is (Basic (Age limit)) h = (limit, refl)
+age_is _ h = cc
 
 module _ {K R : Type 0} (order : K → K → Ordering) (tot : Total order) where
   -- a freed version shows no key to an open report
   freeable_no_key : (t st : ℕ) (reports : List Report) → report_at t reports ≡ Some st → (from : Option K) (v : Version K R) → Freeable reports v → key_seen_in order st from v ≡ None
   freeable_no_key t st reports o from (draft j k d) h = refl
-  freeable_no_key t st reports o from (committed k r b None) h = never false refl h.0
+  freeable_no_key t st reports o from (committed k r b None) h = cc
   freeable_no_key t st reports o from (committed k r b (Some f)) h = rw (not_in_report t st b f reports o h.1)
 
   -- one step of a store that agrees with a sound model
   module _ (b : Summary K R) (s : State K R) (a : Agrees b s) (so : Sound order b.control.stamp b.versions) where
     same_least : (t st : ℕ) → report_at t b.control.reports ≡ Some st → (from : Option K) → least order (keys_seen order st from (summary s).versions) ≡ least order (keys_seen order st from b.versions)
     same_least t st o from =
-        least_perm order tot (then (perm_eq (picked g (summary s).versions) (picked g ((summary s).versions ++ a.versions.freed)) (sym all_here)) (perm_joined (λ v. listed (g v)) a.versions.listed))
+        least_perm order tot (then (perm_eq (picked g (summary s).versions) (picked g ((summary s).versions ++ a.versions.freed)) (sym all_here)) (perm_picked g a.versions.listed))
       where
         g : Version K R → Option K
         g = key_seen_in order st from
@@ -96,7 +77,7 @@ module _ {K R : Type 0} (order : K → K → Ordering) (tot : Total order) where
         none_freed = picked_none g a.versions.freed (All-weaker (Freeable b.control.reports) (λ v. g v ≡ None) (freeable_no_key t st b.control.reports o from) a.versions.freed a.versions.freeable)
 
         all_here : picked g ((summary s).versions ++ a.versions.freed) ≡ picked g (summary s).versions
-        all_here = joined_append (λ v. listed (g v)) (summary s).versions a.versions.freed ∙ (ap (λ ks. picked g (summary s).versions ++ ks) none_freed ∙ append-nil (picked g (summary s).versions))
+        all_here = filter_map-append g (summary s).versions a.versions.freed ∙ (ap (λ ks. picked g (summary s).versions ++ ks) none_freed ∙ append-nil (picked g (summary s).versions))
 
     -- the same answer to a granted call other than age
     same_answer : (c : Call K R) (n : ℕ) → is_age (change c) ≡ false → met order b c n ≡ None → answered order (summary s) c ≡ answered order b c
@@ -109,12 +90,9 @@ module _ {K R : Type 0} (order : K → K → Ordering) (tot : Total order) where
         let o = is_open (stamp_of b.control t) (shelf_fits order b n ∷ []) h in
         rw (a.control, o.1, same_seen order b s a so t.number o.0 (is_own b.control t (report_at t.number b.control.reports) o.0 o.1).1 k)
     same_answer (Basic (Look t k)) n y h = rw (same_draft order b s a so t.number k, same_current order b s a so k)
-    same_answer (Basic (Put t k r)) n y h = refl
-    same_answer (Basic (Remove t k)) n y h = refl
     same_answer (Basic (Commit t)) n y h = rw a.control
-    same_answer (Basic (Abort t)) n y h = refl
-    same_answer (Basic (End t)) n y h = refl
-    same_answer (Basic (Age limit)) n y h = never true y refl
+    same_answer (Basic (Age limit)) n y h = cc
+    same_answer _ n y h = refl
 
     pub step_agrees : (e : Exchange K R) (s' : State K R) → Step order s e s' → Agrees (next_model order b e.call e.shelf) s'
     step_agrees e s' st = go (met order b e.call e.shelf) (subst (λ o. Outcome order o s e s') (same_met order tot b s a so e.call e.shelf) st)
@@ -128,7 +106,7 @@ module _ {K R : Type 0} (order : K → K → Ordering) (tot : Total order) where
       where
         go : (o : Option Code) → met order b e.call e.shelf ≡ o → Outcome order o s e s' → e.answer ≡ replied order o b e.call
         go (Some why) eo h = refused_as e.answer why h.answer
-        go None eo h = h.answer ∙ same_answer e.call e.shelf y eo
+        go None eo h = h.answer ∙ ap Ok (same_answer e.call e.shelf y eo)
 
   -- the model after some calls other than age, each with the length of the shelf that it received
   abbrev pub model : Numbers → List (Call K R × Option ℕ) → Summary K R

@@ -1,6 +1,6 @@
 -- What a commit makes of one version, and so of all: where the job drafted, its draft is what is current from the new stamp on;
 -- elsewhere what was current stays; every earlier stamp sees what it saw; and other jobs keep their drafts.
-use Rattle.std.proofs.Common.{◌≡◌, ℕ, ◌+◌, ◌<◌, Bool, true, false, cond, ◌&&◌, eqb, ltb, leb, [], ◌∷◌, Some, None, Option, Ordering, Less, Equal, Greater, sym, refl, ap, ◌∙◌, arith}
+use Rattle.std.proofs.Common.{◌≡◌, ℕ, ◌+◌, ◌<◌, Bool, true, false, cond, ◌&&◌, eqb, ltb, leb, [], ◌∷◌, Some, None, Option, Ordering, Less, Equal, Greater, sym, refl, ◌∙◌, arith}
 use Rattle.std.specs.List.{AllByRecursion}
 use Rattle.std.proofs.lemmas.Bool.{eqb-true, eqb-false, lt-leb, lt-ltb, cond-true, cond-false}
 use Rattle.std.specs.Option.{option_map}
@@ -8,16 +8,16 @@ use Rattle.std.specs.Ordering.{is_eq}
 use Rattle.keys.specs.Orders.{Total}
 use Rattle.ledger.specs.Words.{when, listed, same}
 use Rattle.ledger.specs.Versions.{Version, draft, committed, draft_in, current_in, seen_in, settled}
-use Rattle.ledger.proofs.Finding.{never, differ, when_off, and_then}
+use Rattle.ledger.proofs.Finding.{when_off, and_then}
 use Rattle.ledger.proofs.Model.{InTime}
 
 pub same_is : {K : Type 0} (order : K → K → Ordering) → Total order → (a b : K) → same order a b ≡ true → a ≡ b
 same_is order tot a b e = go (order a b) refl e
   where
     go : (o : Ordering) → order a b ≡ o → is_eq o ≡ true → a ≡ b
-    go Less p q = never false refl q
+    go Less p q = cc
     go Equal p q = tot.same a b p
-    go Greater p q = never false refl q
+    go Greater p q = cc
 
 -- the record of a draft; none where there is no draft, or one without a record
 abbrev pub draft_record : {R : Type 0} → Option (Option R) → Option R
@@ -75,7 +75,7 @@ module _ {K R : Type 0} (order : K → K → Ordering) (tot : Total order) (t st
       go : (x y : Bool) → same order q k ≡ y → (z : Bool) (d : Option R) → (z ≡ false → when (x && y) d ≡ None) → and_then (cond x (option_map (λ r. committed q r stamp None) d) (Some (draft i q d))) (current_in order k) ≡ cond z (draft_record (when (x && y) d)) None
       go true true ey true None n = refl
       go true true ey true (Some r) n = rw ey
-      go true true ey false d n = let e = n refl in differ cc
+      go true true ey false d n = let e = n refl in cc
       go true false ey true None n = refl
       go true false ey true (Some r) n = rw ey
       go true false ey false None n = refl
@@ -86,10 +86,10 @@ module _ {K R : Type 0} (order : K → K → Ordering) (tot : Total order) (t st
     where
       go : (x : Bool) → written q ≡ x → (y : Bool) → same order q k ≡ y → (z : Bool) → written k ≡ z → current_in order k (committed q r b (when x stamp)) ≡ cond z None (when y r)
       go true ex true ey true ez = refl
-      go true ex true ey false ez = never (written k) ez (sym (ap written (same_is order tot q k ey)) ∙ ex)
+      go true ex true ey false ez = cc (same_is order tot q k ey)
       go true ex false ey true ez = refl
       go true ex false ey false ez = refl
-      go false ex true ey true ez = never (written q) ex (ap written (same_is order tot q k ey) ∙ ez)
+      go false ex true ey true ez = cc (same_is order tot q k ey)
       go false ex y ey false ez = rw ey
       go false ex false ey true ez = rw ey
   settled_current k (committed q r b (Some f)) n = go (written k)
@@ -99,7 +99,7 @@ module _ {K R : Type 0} (order : K → K → Ordering) (tot : Total order) (t st
       go false = refl
 
   pub settled_there : (k : K) → written k ≡ true → (v : Version K R) → and_then (settled order t stamp written v) (current_in order k) ≡ draft_record (draft_in order t k v)
-  settled_there k w v = settled_current k v (λ h. never (written k) h w) ∙ cond-true (written k) (draft_record (draft_in order t k v)) (current_in order k v) w
+  settled_there k w v = settled_current k v (λ h. cc) ∙ cond-true (written k) (draft_record (draft_in order t k v)) (current_in order k v) w
 
   pub settled_elsewhere : (k : K) → written k ≡ false → (v : Version K R) → draft_in order t k v ≡ None → and_then (settled order t stamp written v) (current_in order k) ≡ current_in order k v
   settled_elsewhere k w v n = settled_current k v (λ _. n) ∙ cond-false (written k) (draft_record (draft_in order t k v)) (current_in order k v) w

@@ -9,8 +9,8 @@ use Rattle.std.proofs.lemmas.Bool.{eqb-true, cases_lt, not-true}
 use Rattle.keys.specs.Orders.{Total}
 use Rattle.keys.specs.Refusals.{Code}
 use Rattle.ledger.specs.declared.call.Call.{Call}
-use Rattle.ledger.specs.declared.call.Call.TheVariants.{Walk, Basic}
-use Rattle.ledger.specs.declared.call.BasicCall.TheVariants.{BeginReport, BeginJob, Read, Look, Put, Remove, Commit, Abort, End, Age}
+use Rattle.ledger.specs.declared.call.Call.TheVariants.{Basic}
+use Rattle.ledger.specs.declared.call.BasicCall.TheVariants.{Put, Remove, Commit, Abort}
 use Rattle.ledger.specs.Words.{listed, picked, same}
 use Rattle.ledger.specs.Versions.{Version, draft, committed, drafted_by, draft_in, draft_at, has_draft, current_in, seen_in, drafted, settled, settled_all}
 use Rattle.ledger.specs.Steps.{Summary}
@@ -141,14 +141,8 @@ module _ {K R : Type 0} (order : K → K → Ordering) (tot : Total order) where
   -- a call that met this refusal, or none, leaves the model sound
   pub sound_after : (b : Summary K R) (met : Option Code) (c : Call K R) → Sound order b.control.stamp b.versions → Sound order (moved_on order met b c).control.stamp (moved_on order met b c).versions
   sound_after b (Some why) c so = so
-  sound_after b None (Walk t from) so = so
-  sound_after b None (Basic BeginReport) so = so
-  sound_after b None (Basic BeginJob) so = so
-  sound_after b None (Basic (Read t k)) so = so
-  sound_after b None (Basic (Look t k)) so = so
   sound_after b None (Basic (Put t k r)) so = sound_drafted b.control.stamp b.versions t.number k (Some r) so
   sound_after b None (Basic (Remove t k)) so = sound_drafted b.control.stamp b.versions t.number k None so
   sound_after b None (Basic (Commit t)) so = sound_settled b.control.stamp b.versions t.number so
   sound_after b None (Basic (Abort t)) so = sound_kept b.control.stamp b.versions (λ v. not (drafted_by t.number v)) so
-  sound_after b None (Basic (End t)) so = so
-  sound_after b None (Basic (Age limit)) so = so
+  sound_after b None _ so = so

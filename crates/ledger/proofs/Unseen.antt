@@ -2,8 +2,7 @@
 use Rattle.std.proofs.Common.{◌≡◌, ℕ, Bool, true, false, cond, not, List, [], ◌∷◌, Option, Ordering, unwrap_or, sym, refl, ap, ◌∙◌}
 use Rattle.keys.specs.Orders.{Total}
 use Rattle.ledger.specs.declared.call.Call.{Call}
-use Rattle.ledger.specs.declared.answer.Answer.{Answer}
-use Rattle.ledger.specs.Calls.{Exchange, change, is_age}
+use Rattle.ledger.specs.Calls.{Answer, Exchange, change, is_age}
 use Rattle.ledger.specs.Steps.{State, Numbers, Run}
 use Rattle.ledger.specs.Laws.{but_for_age, asked, answers, AgeIsUnseen}
 use Rattle.ledger.proofs.Model.{met}

@@ -1,14 +1,19 @@
 -- A call with its answer, and what calls and answers are by the kinds that the rules speak of.
 -- Steps, ledger and laws go by these classes, so each rule is said once for all calls of a class.
-use Rattle.std.specs.Prelude.{ℕ, Bool, true, false, not, is_some, Some, None, Option}
+use Rattle.std.specs.Prelude.{ℕ, Bool, true, false, Some, None, Option, Ok, Err, Result, is_ok}
 use Rattle.keys.specs.Refusals.{Code}
 use Rattle.ledger.specs.declared.call.TicketId.{TicketId}
 use Rattle.ledger.specs.declared.call.Call.{Call}
 use Rattle.ledger.specs.declared.call.Call.TheVariants.{Walk, Basic}
 use Rattle.ledger.specs.declared.call.BasicCall.TheVariants.{BeginReport, BeginJob, Read, Look, Put, Remove, Commit, Abort, End, Age}
-use Rattle.ledger.specs.declared.answer.Answer.{Answer}
-use Rattle.ledger.specs.declared.answer.Answer.TheVariants.{Report, Job, Record, Next, Done, Stamp, Aged, Refused}
+use Rattle.ledger.specs.declared.answer.Granted.{Granted}
+use Rattle.ledger.specs.declared.answer.Granted.TheVariants.{Report, Job}
+use Rattle.ledger.specs.declared.answer.Refusal.{Refusal}
 use Rattle.ledger.specs.Refusals.{code}
+
+-- what a call answers: what it was granted, or why it was refused; src/answer.rt has it under the same name
+abbrev pub Answer : Type 0 → Type 0 → Type 0
+Answer K R = Result (Granted K R) Refusal
 
 -- one call: what was asked, the length of the shelf handed over with it, and what was answered
 pub record Exchange (K R : Type 0) : Type 0 where
@@ -44,48 +49,27 @@ change (Basic (Age limit)) = ages limit
 
 -- is it an age call?
 abbrev pub is_age : {K R : Type 0} → Change K R → Bool
-is_age keeps = false
-is_age (drafts t k d) = false
-is_age (commits t) = false
-is_age (aborts t) = false
 is_age (ages limit) = true
+is_age _ = false
 
 -- read, look and put receive the shelf, no other call
 abbrev pub receives_shelf : {K R : Type 0} → Call K R → Bool
-receives_shelf (Walk t after) = false
-receives_shelf (Basic BeginReport) = false
-receives_shelf (Basic BeginJob) = false
 receives_shelf (Basic (Read t k)) = true
 receives_shelf (Basic (Look t k)) = true
 receives_shelf (Basic (Put t k r)) = true
-receives_shelf (Basic (Remove t k)) = false
-receives_shelf (Basic (Commit t)) = false
-receives_shelf (Basic (Abort t)) = false
-receives_shelf (Basic (End t)) = false
-receives_shelf (Basic (Age limit)) = false
+receives_shelf _ = false
 
 -- the refusal that an answer tells, by its number and values; none where the call was granted
 abbrev pub refusal : {K R : Type 0} → Answer K R → Option Code
-refusal (Report t s) = None
-refusal (Job t) = None
-refusal (Record r) = None
-refusal (Next k) = None
-refusal Done = None
-refusal (Stamp s) = None
-refusal (Aged looked freed) = None
-refusal (Refused why) = Some (code why)
+refusal (Ok g) = None
+refusal (Err why) = Some (code why)
 
 -- was the call granted?
 abbrev pub granted : {K R : Type 0} → Answer K R → Bool
-granted a = not (is_some (refusal a))
+granted a = is_ok a
 
 -- the ticket that an answer gives out
 abbrev pub given : {K R : Type 0} → Answer K R → Option TicketId
-given (Report t s) = Some t
-given (Job t) = Some t
-given (Record r) = None
-given (Next k) = None
-given Done = None
-given (Stamp s) = None
-given (Aged looked freed) = None
-given (Refused why) = None
+given (Ok (Report t s)) = Some t
+given (Ok (Job t)) = Some t
+given _ = None

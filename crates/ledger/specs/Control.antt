@@ -23,19 +23,19 @@ pub record Control (K : Type 0) : Type 0 where
 
 -- the control state with other reports
 abbrev pub with_reports : {K : Type 0} → Control K → List Report → Control K
-with_reports c reports = record { store = c.store; stamp = c.stamp; next = c.next; reports = reports; jobs = c.jobs }
+with_reports c reports = record c { reports = reports }
 
 -- the control state with other jobs
 abbrev pub with_jobs : {K : Type 0} → Control K → List (Job K) → Control K
-with_jobs c jobs = record { store = c.store; stamp = c.stamp; next = c.next; reports = c.reports; jobs = jobs }
+with_jobs c jobs = record c { jobs = jobs }
 
 -- the next running number is given out
 abbrev pub numbered : {K : Type 0} → Control K → Control K
-numbered c = record { store = c.store; stamp = c.stamp; next = c.next + 1; reports = c.reports; jobs = c.jobs }
+numbered c = record c { next = c.next + 1 }
 
 -- one is added to the stamp
 abbrev pub stamped : {K : Type 0} → Control K → Control K
-stamped c = record { store = c.store; stamp = c.stamp + 1; next = c.next; reports = c.reports; jobs = c.jobs }
+stamped c = record c { stamp = c.stamp + 1 }
 
 -- the ticket that the next begin gives out
 abbrev pub next_ticket : {K : Type 0} → Control K → TicketId
@@ -96,7 +96,7 @@ module _ {K : Type 0} (order : K → K → Ordering) where
 
   -- the job holds the key from now on, if it did not already
   abbrev pub holding : ℕ → K → List (Job K) → List (Job K)
-  holding t k = map (λ j. cond (j.ticket == t && not (has_key k j.keys)) (record { ticket = j.ticket; keys = j.keys ++ (k ∷ []) }) j)
+  holding t k = map (λ j. cond (j.ticket == t && not (has_key k j.keys)) (record j { keys = j.keys ++ (k ∷ []) }) j)
 
   -- is a new entry needed for the key, and is every entry of the job's row used?
   abbrev pub row_full : ℕ → K → List (Job K) → Bool

@@ -1,10 +1,10 @@
 -- Worked examples of the definitions, as one statement: spans, ageing, drafts of one job, and whole sessions.
-use Rattle.std.specs.Prelude.{◌≡◌, ℕ, true, false, List, [], ◌∷◌, Some, nat_lt}
+use Rattle.std.specs.Prelude.{◌≡◌, ℕ, true, false, List, [], ◌∷◌, Some, Ok, nat_lt}
 use Rattle.std.specs.declared.cmp.Ordering.{Ordering}
 use Rattle.ledger.specs.declared.call.TicketId.{TicketId}
 use Rattle.ledger.specs.declared.call.Call.TheVariants.{Basic}
 use Rattle.ledger.specs.declared.call.BasicCall.TheVariants.{Put, Remove, Commit}
-use Rattle.ledger.specs.declared.answer.Answer.TheVariants.{Done, Stamp}
+use Rattle.ledger.specs.declared.answer.Granted.TheVariants.{Done, Stamp}
 use Rattle.ledger.specs.declared.place.PlaceState.TheVariants.{Current, Superseded}
 use Rattle.ledger.specs.declared.place.PlaceEvent.TheVariants as event
 use Rattle.ledger.specs.Places.{after, free, spans}
@@ -19,9 +19,9 @@ module _ (K R : Type 0) (order : K → K → Ordering) where
   -- a granted remove, put and commit of one job, the newest first
   abbrev pub remove_then_put : TicketId → K → R → ℕ → List (Exchange K R) → List (Exchange K R)
   remove_then_put job k r stamp past =
-      record { call = Basic (Commit job); shelf = 0; answer = Stamp stamp }
-      ∷ record { call = Basic (Put job k r); shelf = 0; answer = Done }
-      ∷ record { call = Basic (Remove job k); shelf = 0; answer = Done }
+      record { call = Basic (Commit job); shelf = 0; answer = Ok (Stamp stamp) }
+      ∷ record { call = Basic (Put job k r); shelf = 0; answer = Ok Done }
+      ∷ record { call = Basic (Remove job k); shelf = 0; answer = Ok Done }
       ∷ past
 
   pub record Examples : Type 0 where

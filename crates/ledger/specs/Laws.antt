@@ -1,6 +1,6 @@
 -- What is true of every run of a store.
 -- The laws speak of calls, answers and the ledger; only what ageing frees is said of places.
-use Rattle.std.specs.Prelude.{◌≡◌, ℕ, ◌<◌, Bool, true, false, cond, not, ◌&&◌, ◌↔◌, List, [], ◌∷◌, map, is_some, Some, None, filter, Option, ◌==◌}
+use Rattle.std.specs.Prelude.{◌≡◌, ℕ, ◌<◌, Bool, true, false, cond, not, ◌&&◌, ◌↔◌, List, [], ◌∷◌, map, is_some, Some, None, filter, Option, Ok, ◌==◌}
 use Rattle.std.specs.declared.cmp.Ordering.{Ordering}
 use Rattle.std.specs.List.{AllByRecursion, slice_get}
 use Rattle.std.specs.Option.{unwrap_or}
@@ -9,13 +9,12 @@ use Rattle.ledger.specs.declared.call.TicketId.{TicketId}
 use Rattle.ledger.specs.declared.call.Call.{Call}
 use Rattle.ledger.specs.declared.call.Call.TheVariants.{Walk, Basic}
 use Rattle.ledger.specs.declared.call.BasicCall.TheVariants.{Read, Look, Age}
-use Rattle.ledger.specs.declared.answer.Answer.{Answer}
-use Rattle.ledger.specs.declared.answer.Answer.TheVariants.{Record, Next}
+use Rattle.ledger.specs.declared.answer.Granted.TheVariants.{Record, Next}
 use Rattle.ledger.specs.declared.place.PlaceState.TheVariants.{Superseded}
 use Rattle.ledger.specs.Words.{when, first, any, same, less, beyond}
 use Rattle.ledger.specs.Places.{in_report}
 use Rattle.ledger.specs.Versions.{Version, draft, committed, has_draft}
-use Rattle.ledger.specs.Calls.{Exchange, Change, keeps, drafts, commits, aborts, ages, change, is_age, receives_shelf, refusal, granted, given}
+use Rattle.ledger.specs.Calls.{Answer, Exchange, Change, drafts, commits, change, is_age, receives_shelf, refusal, granted, given}
 use Rattle.ledger.specs.Ledger.{Ledger, ledger, how_many_wanted}
 use Rattle.ledger.specs.Steps.{State, Numbers, Run}
 
@@ -47,11 +46,8 @@ before t (e ∷ past) = cond (gives t (given e.answer)) past (before t past)
 module _ {K R : Type 0} (order : K → K → Ordering) where
   -- what a granted call drafts for the job at the key: a record, or none
   abbrev pub draft_made : ℕ → K → Change K R → Option (Option R)
-  draft_made j k keeps = None
   draft_made j k (drafts t q d) = when (t == j && same order q k) d
-  draft_made j k (commits t) = None
-  draft_made j k (aborts t) = None
-  draft_made j k (ages limit) = None
+  draft_made j k _ = None
 
   -- what the job put or removed last at the key
   abbrev pub last_draft : ℕ → K → List (Exchange K R) → Option (Option R)
@@ -59,11 +55,8 @@ module _ {K R : Type 0} (order : K → K → Ordering) where
 
   -- what a granted call leaves at the key, if it is a commit of a job that put or removed it
   abbrev pub leaves : K → Change K R → List (Exchange K R) → Option (Option R)
-  leaves k keeps past = None
-  leaves k (drafts t q d) past = None
   leaves k (commits t) past = last_draft t k past
-  leaves k (aborts t) past = None
-  leaves k (ages limit) past = None
+  leaves k _ past = None
 
   -- what the last commit of a job that put or removed the key left there; without such a commit, none
   abbrev pub left : K → List (Exchange K R) → Option R
@@ -72,15 +65,15 @@ module _ {K R : Type 0} (order : K → K → Ordering) where
 
   -- (a) a granted read shows what the last commit before its report began, of a job that put or removed the key, left there
   abbrev pub ReadIsTrue : Exchange K R → List (Exchange K R) → Type 0
-  ReadIsTrue e past = (t : TicketId) (k : K) (shown : Option R) → e.call ≡ Basic (Read t k) → e.answer ≡ Record shown → shown ≡ left k (before t.number past)
+  ReadIsTrue e past = (t : TicketId) (k : K) (shown : Option R) → e.call ≡ Basic (Read t k) → e.answer ≡ Ok (Record shown) → shown ≡ left k (before t.number past)
 
   -- a granted look shows what its job put or removed last at the key, else what the last such commit left there
   abbrev pub LookIsTrue : Exchange K R → List (Exchange K R) → Type 0
-  LookIsTrue e past = (t : TicketId) (k : K) (shown : Option R) → e.call ≡ Basic (Look t k) → e.answer ≡ Record shown → shown ≡ unwrap_or (last_draft t.number k past) (left k past)
+  LookIsTrue e past = (t : TicketId) (k : K) (shown : Option R) → e.call ≡ Basic (Look t k) → e.answer ≡ Ok (Record shown) → shown ≡ unwrap_or (last_draft t.number k past) (left k past)
 
   -- a granted walk answers the least key, greater than the given one, at which read would answer a record
   abbrev pub WalkIsTrue : Exchange K R → List (Exchange K R) → Type 0
-  WalkIsTrue e past = (t : TicketId) (from found : Option K) → e.call ≡ Walk t from → e.answer ≡ Next found → Least order (λ k. beyond order from k && is_some (left k (before t.number past))) found
+  WalkIsTrue e past = (t : TicketId) (from found : Option K) → e.call ≡ Walk t from → e.answer ≡ Ok (Next found) → Least order (λ k. beyond order from k && is_some (left k (before t.number past))) found
 
 -- the calls other than age, with their answers
 abbrev pub but_for_age : {K R : Type 0} → List (Exchange K R) → List (Exchange K R)
@@ -101,11 +94,8 @@ refused_earlier (Some why) = any (λ n. n == why.number) (4 ∷ 3 ∷ 7 ∷ 8 �
 
 -- put and remove need a place when their job has no draft at the key
 abbrev pub NeedsPlace : {K R : Type 0} → (K → K → Ordering) → List (Version K R) → Change K R → Type 0
-NeedsPlace order versions keeps = ⊥
 NeedsPlace order versions (drafts t k d) = has_draft order t k versions ≡ false
-NeedsPlace order versions (commits t) = ⊥
-NeedsPlace order versions (aborts t) = ⊥
-NeedsPlace order versions (ages limit) = ⊥
+NeedsPlace order versions _ = ⊥
 
 -- some place that is not free carries the superseded version's key, record and stamps
 abbrev pub HasPlace : {K R : Type 0} → State K R → K → R → ℕ → ℕ → Type 0

@@ -5,12 +5,11 @@ use Rattle.std.specs.declared.cmp.Ordering.{Ordering}
 use Rattle.ledger.specs.declared.call.Call.{Call}
 use Rattle.ledger.specs.declared.call.Call.TheVariants.{Walk, Basic}
 use Rattle.ledger.specs.declared.call.BasicCall.TheVariants.{BeginReport, BeginJob, Read, Look, Put, Remove, Commit, Abort, End, Age}
-use Rattle.ledger.specs.declared.answer.Answer.{Answer}
 use Rattle.ledger.specs.declared.place.Report.{Report}
 use Rattle.ledger.specs.Words.{listed}
 use Rattle.ledger.specs.Versions.{Version, wanted, drafted, settled_all, without_drafts}
 use Rattle.ledger.specs.Control.{reports_but}
-use Rattle.ledger.specs.Calls.{Exchange, granted, given}
+use Rattle.ledger.specs.Calls.{Answer, Exchange, granted, given}
 
 -- the stamp, what is open, and every draft and version, listed for ever
 pub record Ledger (K R : Type 0) : Type 0 where
@@ -26,19 +25,19 @@ how_many_wanted l = count_by (wanted l.reports) l.versions
 
 -- the ledger with other reports
 abbrev pub set_reports : {K R : Type 0} → Ledger K R → List Report → Ledger K R
-set_reports l reports = record { stamp = l.stamp; reports = reports; jobs = l.jobs; versions = l.versions }
+set_reports l reports = record l { reports = reports }
 
 -- the ledger with other jobs
 abbrev pub set_jobs : {K R : Type 0} → Ledger K R → List ℕ → Ledger K R
-set_jobs l jobs = record { stamp = l.stamp; reports = l.reports; jobs = jobs; versions = l.versions }
+set_jobs l jobs = record l { jobs = jobs }
 
 -- the ledger with other versions
 abbrev pub set_versions : {K R : Type 0} → Ledger K R → List (Version K R) → Ledger K R
-set_versions l versions = record { stamp = l.stamp; reports = l.reports; jobs = l.jobs; versions = versions }
+set_versions l versions = record l { versions = versions }
 
 -- one is added to the stamp
 abbrev pub raised : {K R : Type 0} → Ledger K R → Ledger K R
-raised l = record { stamp = l.stamp + 1; reports = l.reports; jobs = l.jobs; versions = l.versions }
+raised l = record l { stamp = l.stamp + 1 }
 
 -- the job is closed
 abbrev pub closed : {K R : Type 0} → ℕ → Ledger K R → Ledger K R

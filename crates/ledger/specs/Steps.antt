@@ -1,7 +1,7 @@
 -- A store by its control state, its places and its shelf: what each call checks, answers and moves, and the runs of calls from an opening on.
 -- Refusals, answers and the control state afterwards go by a summary, which does not tell which place holds what.
 -- Only the place that a put or remove takes among free ones is left open.
-use Rattle.std.specs.Prelude.{◌≡◌, ℕ, ◌+◌, ◌<◌, Bool, true, cond, not, ◌&&◌, ◌||◌, List, [], ◌∷◌, ◌++◌, map, length, replicate, is_some, Some, None, count_by, Option, ◌==◌, nat_le, nat_lt, slice_index_or, slice_set}
+use Rattle.std.specs.Prelude.{◌≡◌, ℕ, ◌+◌, ◌<◌, Bool, true, cond, not, ◌&&◌, ◌||◌, List, [], ◌∷◌, ◌++◌, map, length, replicate, is_some, Some, None, count_by, Option, Ok, ◌==◌, nat_le, nat_lt, slice_index_or, slice_set}
 use Rattle.std.specs.declared.cmp.Ordering.{Ordering}
 use Rattle.std.specs.Option.{unwrap_or}
 use Rattle.keys.specs.Refusals.{Code, plain}
@@ -9,8 +9,8 @@ use Rattle.ledger.specs.declared.call.TicketId.{TicketId}
 use Rattle.ledger.specs.declared.call.Call.{Call}
 use Rattle.ledger.specs.declared.call.Call.TheVariants.{Walk, Basic}
 use Rattle.ledger.specs.declared.call.BasicCall.TheVariants.{BeginReport, BeginJob, Read, Look, Put, Remove, Commit, Abort, End, Age}
-use Rattle.ledger.specs.declared.answer.Answer.{Answer}
-use Rattle.ledger.specs.declared.answer.Answer.TheVariants.{Report as ReportBegun, Job as JobBegun, Record, Next, Done, Stamp, Aged}
+use Rattle.ledger.specs.declared.answer.Granted.{Granted}
+use Rattle.ledger.specs.declared.answer.Granted.TheVariants.{Report as ReportBegun, Job as JobBegun, Record, Next, Done, Stamp, Aged}
 use Rattle.ledger.specs.declared.place.Place.{Place}
 use Rattle.ledger.specs.declared.place.PlaceEvent.{PlaceEvent}
 use Rattle.ledger.specs.declared.place.PlaceEvent.TheVariants as event
@@ -132,7 +132,7 @@ module _ {K R : Type 0} (order : K → K → Ordering) where
   sight b t = unwrap_or (stamp_of b.control t) 0
 
   -- what a granted call answers
-  abbrev pub answered : Summary K R → Call K R → Answer K R
+  abbrev pub answered : Summary K R → Call K R → Granted K R
   answered b (Walk t from) = Next (least order (keys_seen order (sight b t) from b.versions))
   answered b (Basic BeginReport) = ReportBegun (next_ticket b.control) b.control.stamp
   answered b (Basic BeginJob) = JobBegun (next_ticket b.control)
@@ -204,8 +204,8 @@ module _ {K R : Type 0} (order : K → K → Ordering) where
   Moves s (ages limit) places shelf = (places ≡ map (place_aged (λ f. nat_lt f limit) s.control.reports) s.places) × (shelf ≡ s.shelf)
 
   -- a granted call
-  pub record Granted (s : State K R) (e : Exchange K R) (s' : State K R) : Type 0 where
-    pub answer : e.answer ≡ answered order (summary s) e.call
+  pub record GrantedStep (s : State K R) (e : Exchange K R) (s' : State K R) : Type 0 where
+    pub answer : e.answer ≡ Ok (answered order (summary s) e.call)
     pub control : s'.control ≡ control_after order (summary s) e.call
     pub moves : Moves s (change e.call) s'.places s'.shelf
 
@@ -216,7 +216,7 @@ module _ {K R : Type 0} (order : K → K → Ordering) where
 
   -- what a call comes to: it meets no refusal and is granted, or it meets one and is sent back
   abbrev pub Outcome : Option Code → State K R → Exchange K R → State K R → Type 0
-  Outcome None s e s' = Granted s e s'
+  Outcome None s e s' = GrantedStep s e s'
   Outcome (Some why) s e s' = SentBack why s e s'
 
   -- the step from a store to the store after one call

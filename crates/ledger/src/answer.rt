@@ -1,8 +1,12 @@
 // What a store answers, and why it refuses.
-use crate::call::TicketId;
+ghost use Rattle.ledger.specs.Refusals.{code};
 
-#[derive(Clone, Copy)]
-pub enum Answer<K, R> {
+use crate::call::TicketId;
+use keys::Reason;
+
+// What a granted call answers.
+#[derive(Clone, Copy, PartialEq, Eq, Debug)]
+pub enum Granted<K, R> {
     // a report began: its ticket, and the stamp that it sees
     Report { ticket: TicketId, stamp: u32 },
     // a job began
@@ -17,10 +21,10 @@ pub enum Answer<K, R> {
     Stamp(u32),
     // how many superseded versions age looked at, and how many of them it freed
     Aged { looked: usize, freed: usize },
-    Refused(Refusal),
 }
 
-#[derive(Clone, Copy)]
+// Why a call is refused.
+#[derive(Clone, Copy, PartialEq, Eq, Debug)]
 pub enum Refusal {
     // 3: the shelf's length is not the count of places
     WrongShelf,
@@ -40,4 +44,32 @@ pub enum Refusal {
     StoreFull,
     // 11: the stamps are used up
     OutOfStamps,
+}
+
+// What a call answers: what it was granted, or why it was refused.
+pub type Answer<K, R> = Result<Granted<K, R>, Refusal>;
+
+impl Reason for Refusal {
+    ghost code = { code };
+
+    fn number(self) -> u8 {
+        match self {
+            Refusal::WrongShelf => 3,
+            Refusal::NotOpen => 4,
+            Refusal::TooManyOpen => 5,
+            Refusal::OutOfTickets => 6,
+            Refusal::Held { .. } => 7,
+            Refusal::NothingThere => 8,
+            Refusal::RowFull => 9,
+            Refusal::StoreFull => 10,
+            Refusal::OutOfStamps => 11,
+        }
+    }
+
+    fn value(self) -> Option<u32> {
+        match self {
+            Refusal::Held { ticket } => Some(ticket),
+            _ => None,
+        }
+    }
 }

@@ -3,7 +3,7 @@
 // a store over an ordered index serves every `Call`, and one over any other index cannot be handed a walk.
 
 // A ticket: the number of the store that gave it out, and its running number there.
-#[derive(Clone, Copy)]
+#[derive(Clone, Copy, PartialEq, Eq, Debug)]
 pub struct TicketId {
     pub store: u16,
     pub number: u32,

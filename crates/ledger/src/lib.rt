@@ -8,7 +8,7 @@ mod law;
 mod limits;
 mod place;
 
-pub use answer::{Answer, Refusal};
+pub use answer::{Answer, Granted, Refusal};
 pub use call::{BasicCall, Call, TicketId};
 pub use law::{law_of_runs, worked_examples};
 pub use limits::{LAST_STAMP, LAST_TICKET, MAX_JOBS, MAX_REPORTS, ROW_ENTRIES};

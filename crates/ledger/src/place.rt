@@ -4,7 +4,6 @@ ghost use Rattle.ledger.specs.Places.{after, carries, free, in_report, is_curren
 ghost use Rattle.std.specs.Prelude.{◌≡◌, Some, nat_lt};
 
 use keys::Key;
-use std::cmp::Ordering;
 
 #[derive(Clone, Copy)]
 pub enum PlaceState<K> {
@@ -94,8 +93,10 @@ impl<K: Copy> Place<K> {
     {
         match self.state {
             PlaceState::Free => None,
-            PlaceState::Unstamped { key, .. } | PlaceState::Gone { key, .. } => Some(key),
-            PlaceState::Current { key, .. } | PlaceState::Superseded { key, .. } => Some(key),
+            PlaceState::Unstamped { key, .. }
+            | PlaceState::Gone { key, .. }
+            | PlaceState::Current { key, .. }
+            | PlaceState::Superseded { key, .. } => Some(key),
         }
     }
 
@@ -103,11 +104,10 @@ impl<K: Copy> Place<K> {
     pub fn is_draft_of(self, job: u32) -> bool
         ensures answer { result ≡ is_draft_of job self.state }
     {
-        match self.state {
-            PlaceState::Unstamped { job: own, .. } => own == job,
-            PlaceState::Gone { job: own, .. } => own == job,
-            _ => false,
-        }
+        matches!(
+            self.state,
+            PlaceState::Unstamped { job: own, .. } | PlaceState::Gone { job: own, .. } if own == job
+        )
     }
 
     pub fn is_current(self) -> bool
@@ -131,10 +131,7 @@ impl<K: Copy> Place<K> {
     pub fn is_finished_below(self, limit: u32) -> bool
         ensures answer { result ≡ is_finished (λ f. nat_lt f limit) self.state }
     {
-        match self.state {
-            PlaceState::Superseded { finish, .. } => finish < limit,
-            _ => false,
-        }
+        matches!(self.state, PlaceState::Superseded { finish, .. } if finish < limit)
     }
 
     // Whether it is wanted: a draft, current, or superseded with an open report's stamp in its span.
@@ -143,8 +140,8 @@ impl<K: Copy> Place<K> {
     {
         match self.state {
             PlaceState::Free => false,
-            PlaceState::Unstamped { .. } | PlaceState::Gone { .. } => true,
-            PlaceState::Current { .. } => true,
+            PlaceState::Unstamped { .. } | PlaceState::Gone { .. } | PlaceState::Current { .. } =>
+                true,
             PlaceState::Superseded { begin, finish, .. } => is_in_report(reports, begin, finish),
         }
     }
@@ -155,10 +152,7 @@ impl<K: Key> Place<K> {
     pub fn carries(self, key: K) -> bool
         ensures answer { result ≡ carries K.Key.order key self.state }
     {
-        match self.key() {
-            None => false,
-            Some(own) => matches!(own.compare(key), Ordering::Equal),
-        }
+        self.key().is_some_and(|own| own.compare(key).is_eq())
     }
 }
 
@@ -166,17 +160,14 @@ impl<K: Key> Place<K> {
 fn span_holds(begin: u32, finish: u32, stamp: u32) -> bool
     ensures answer { result ≡ spans begin (Some finish) stamp }
 {
-    begin <= stamp && stamp < finish
+    (begin..finish).contains(&stamp)
 }
 
 // Whether the span holds the stamp of one of the reports.
 fn is_in_report(reports: &[Report], begin: u32, finish: u32) -> bool
     ensures answer { result ≡ in_report reports.now begin finish }
 {
-    for report in reports {
-        if span_holds(begin, finish, report.stamp) {
-            return true;
-        }
-    }
-    false
+    reports
+        .iter()
+        .any(|report| span_holds(begin, finish, report.stamp))
 }
