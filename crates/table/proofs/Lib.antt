@@ -1,4 +1,4 @@
 pub mod Checking
-pub mod Counting
-pub mod Positions
+pub mod Finding
+pub mod Tickets
 pub mod Seeing

@@ -1,13 +1,12 @@
 -- What is found in a list: a position that passes a test, and the element that has a ticket.
 -- Stands on the ledger's small words; rows, reports and places are searched by these.
-use Rattle.std.specs.Prelude.{◌≡◌, ℕ, zero, suc, ◌<◌, Bool, true, false, cond, List, [], ◌∷◌, length, Some, None, Option, ◌==◌, slice_index_or}
+use Rattle.std.specs.Prelude.{◌≡◌, ℕ, ◌<◌, Bool, true, false, cond, List, [], ◌∷◌, length, Some, None, Option, ◌==◌, slice_index_or}
+use Rattle.std.specs.List.{position as first_position}
 use Rattle.ledger.specs.Words.{when, first, any}
-use Rattle.std.specs.Option.{option_map}
 
--- the first position whose element passes the test
-abbrev pub position : {X : Type 0} → (X → Bool) → List X → Option ℕ
-position test [] = None
-position test (x ∷ xs) = cond (test x) (Some zero) (option_map suc (position test xs))
+-- the first position whose element passes the test; a proof sees the library's word for it only where it asks to
+unfoldable pub position : {X : Type 0} → (X → Bool) → List X → Option ℕ
+position test xs = first_position test xs
 
 -- a position whose element passes the test, or none where no element passes; which of several is left open
 abbrev pub Finds : {X : Type 0} → X → (X → Bool) → List X → Option ℕ → Type 0

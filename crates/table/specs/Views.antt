@@ -1,6 +1,6 @@
 -- What a table means: its numbers, and its three lists as lists.
 -- Contracts equate the view at exit with a function of the view at entry, or relate the two.
-use Rattle.std.specs.Prelude.{ℕ, cond, List, [], replicate, None, Ok, Err, vec_items, Option, Result, ◌==◌, slice_index_or}
+use Rattle.std.specs.Prelude.{ℕ, cond, List, [], replicate, None, Ok, Err, Option, Result, ◌==◌, slice_index_or}
 use Rattle.ledger.specs.Places.{free}
 use Rattle.ledger.specs.declared.call.TicketId.{TicketId}
 use Rattle.ledger.specs.declared.place.Place.{Place}
@@ -23,9 +23,9 @@ view t = record {
   store = t.store;
   stamp = t.stamp;
   next = t.next;
-  places = vec_items t.places;
-  reports = vec_items t.reports.items;
-  jobs = vec_items t.jobs.items;
+  places = t.places.items;
+  reports = t.reports.items.items;
+  jobs = t.jobs.items.items;
 }
 
 -- the view of a table that was just made

@@ -1,5 +1,5 @@
 // What ageing looks at and what it frees: the superseded versions below a limit that no open report's stamp lies in the span of.
-ghost use Rattle.std.specs.Prelude.{◌≡◌, count_by};
+ghost use Rattle.std.specs.Prelude.{◌≡◌};
 ghost use Rattle.table.specs.Ageing.{freed, is_freed, is_looked_at, looked_at};
 ghost use Rattle.table.specs.Views.{view};
 
@@ -31,40 +31,36 @@ pub fn is_freed<K: Key>(place: Place<K>, reports: &[Report], limit: Option<u32>)
     is_looked_at(place, limit) && !place.is_wanted(reports)
 }
 
-// How many places ageing looks at.
-fn count_looked<K: Key>(places: &[Place<K>], limit: Option<u32>) -> usize
-    ensures answer { result ≡ count_by (λ p. is_looked_at limit p.state) places.now }
-{
-    let mut count = 0;
-    for place in places {
-        if is_looked_at(*place, limit) {
-            count += 1;
-        }
-    }
-    count
-}
-
-// How many places ageing frees.
-fn count_freed<K: Key>(places: &[Place<K>], reports: &[Report], limit: Option<u32>) -> usize
-    ensures answer { result ≡ count_by (λ p. is_freed limit reports.now p.state) places.now }
-{
-    let mut count = 0;
-    for place in places {
-        if is_freed(*place, reports, limit) {
-            count += 1;
-        }
-    }
-    count
-}
-
 impl<K: Key> Table<K> {
+    // How many places ageing looks at.
+    fn count_looked(&self, limit: Option<u32>) -> usize
+        ensures answer { result ≡ looked_at limit (view self.now) }
+    {
+        self.places
+            .iter()
+            .filter(|place| is_looked_at(**place, limit))
+            .count()
+    }
+
+    // How many places ageing frees.
+    fn count_freed(&self, limit: Option<u32>) -> usize
+        ensures answer { result ≡ freed limit (view self.now) }
+    {
+        let reports = &self.reports.items;
+        self.places
+            .iter()
+            .filter(|place| is_freed(**place, reports, limit))
+            .count()
+    }
+
     // What ageing with the limit looks at and frees.
     pub fn age_counts(&self, limit: Option<u32>) -> Aged
         ensures looked { result.looked ≡ looked_at limit (view self.now) }
         ensures freed { result.freed ≡ freed limit (view self.now) }
     {
-        let looked = count_looked(&self.places, limit);
-        let freed = count_freed(&self.places, &self.reports.items, limit);
-        Aged { looked, freed }
+        Aged {
+            looked: self.count_looked(limit),
+            freed: self.count_freed(limit),
+        }
     }
 }

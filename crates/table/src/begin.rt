@@ -1,8 +1,9 @@
 // Beginning reports and jobs, and ending reports.
-ghost use Rattle.keys.specs.Refusals.{told};
+ghost use Rattle.keys.specs.Refusals.{plain, told};
 ghost use Rattle.ledger.specs.Refusals.{code};
-ghost use Rattle.table.specs.Begins.{begin_job_checks, begin_report_checks, job_opened, next_ticket, report_closed, report_opened};
-ghost use Rattle.table.specs.Checks.{checked, report_open};
+ghost use Rattle.ledger.specs.Words.{when};
+ghost use Rattle.table.specs.Begins.{begin_job_checks, begin_report_checks, job_opened, next_ticket, numbered, report_closed, report_opened};
+ghost use Rattle.table.specs.Checks.{checked, number_left, report_open};
 ghost use Rattle.table.specs.Views.{if_granted, view};
 ghost use Rattle.std.specs.Prelude.{◌≡◌, [], ◌∷◌};
 
@@ -12,30 +13,37 @@ use keys::Key;
 use ledger::{LAST_TICKET, Refusal, Report, TicketId};
 
 impl<K: Key> Table<K> {
-    // The ticket of a new report, and the stamp that it sees.
-    pub fn begin_report(&mut self) -> Result<(TicketId, u32), Refusal>
-        ensures answer { told code result ≡ checked (begin_report_checks (view self.old)) (next_ticket (view self.old), (view self.old).stamp) }
-        ensures after { view self.new ≡ if_granted result (report_opened (view self.old)) (view self.old) }
+    // The next ticket, unless the list that it is for is full or the running numbers are used up.
+    fn issue(&mut self, full: bool) -> Result<TicketId, Refusal>
+        ensures answer { told code result ≡ checked (when full (plain 5) ∷ number_left (view self.old) ∷ []) (next_ticket (view self.old)) }
+        ensures after { view self.new ≡ if_granted result (numbered (view self.old)) (view self.old) }
     {
-        if self.reports.is_full() {
+        if full {
             return Err(Refusal::TooManyOpen);
         }
         if self.next > LAST_TICKET {
             return Err(Refusal::OutOfTickets);
         }
-        let number = self.next;
+        let ticket = TicketId {
+            store: self.store,
+            number: self.next,
+        };
+        self.next += 1;
+        Ok(ticket)
+    }
+
+    // The ticket of a new report, and the stamp that it sees.
+    pub fn begin_report(&mut self) -> Result<(TicketId, u32), Refusal>
+        ensures answer { told code result ≡ checked (begin_report_checks (view self.old)) (next_ticket (view self.old), (view self.old).stamp) }
+        ensures after { view self.new ≡ if_granted result (report_opened (view self.old)) (view self.old) }
+    {
+        let full = self.reports.is_full();
+        let ticket = self.issue(full)?;
         self.reports.add(Report {
-            ticket: number,
+            ticket: ticket.number,
             stamp: self.stamp,
         });
-        self.next = number + 1;
-        Ok((
-            TicketId {
-                store: self.store,
-                number,
-            },
-            self.stamp,
-        ))
+        Ok((ticket, self.stamp))
     }
 
     // The ticket of a new job, which holds no key.
@@ -43,19 +51,10 @@ impl<K: Key> Table<K> {
         ensures answer { told code result ≡ checked (begin_job_checks (view self.old)) (next_ticket (view self.old)) }
         ensures after { view self.new ≡ if_granted result (job_opened (view self.old)) (view self.old) }
     {
-        if self.jobs.is_full() {
-            return Err(Refusal::TooManyOpen);
-        }
-        if self.next > LAST_TICKET {
-            return Err(Refusal::OutOfTickets);
-        }
-        let number = self.next;
-        self.jobs.add(Row::new(number));
-        self.next = number + 1;
-        Ok(TicketId {
-            store: self.store,
-            number,
-        })
+        let full = self.jobs.is_full();
+        let ticket = self.issue(full)?;
+        self.jobs.add(Row::new(ticket.number));
+        Ok(ticket)
     }
 
     // Ends the report.

@@ -14,10 +14,7 @@ impl HeldKey {
     pub fn place(self) -> Option<usize>
         ensures answer { result ≡ place_of self }
     {
-        match self.draft {
-            Some(n) => Some(n),
-            None => self.current,
-        }
+        self.draft.or(self.current)
     }
 }
 
@@ -41,7 +38,7 @@ impl Row {
         ensures answer { result.now ≡ entries_of self.now }
     {
         let used = self.used.min(ROW_ENTRIES);
-        &self.entries[0..used]
+        &self.entries[..used]
     }
 
     // Whether every entry is used.
@@ -55,15 +52,10 @@ impl Row {
     pub fn check_room(&self, entry: Option<usize>) -> Result<(), Refusal>
         ensures answer { told code result ≡ unless (when (not (is_some entry) && is_row_full self.now) (plain 9)) tt }
     {
-        match entry {
-            Some(_) => Ok(()),
-            None => {
-                if self.is_full() {
-                    return Err(Refusal::RowFull);
-                }
-                Ok(())
-            }
+        if entry.is_none() && self.is_full() {
+            return Err(Refusal::RowFull);
         }
+        Ok(())
     }
 
     // The row with the entry in the place of the one at the position, or, with none given, as one more if there is room.
@@ -71,19 +63,15 @@ impl Row {
         ensures answer { result ≡ noted at entry self }
     {
         let mut row = self;
+        let used = row.used;
+        // By bounds test and index: `get_mut` does not say what the array is after a write through what it lends.
         match at {
-            Some(i) => {
-                if i < ROW_ENTRIES {
-                    row.entries[i] = entry;
-                }
+            Some(i) if i < ROW_ENTRIES => row.entries[i] = entry,
+            None if used < ROW_ENTRIES => {
+                row.entries[used] = entry;
+                row.used = used + 1;
             }
-            None => {
-                let used = row.used;
-                if used < ROW_ENTRIES {
-                    row.entries[used] = entry;
-                    row.used = used + 1;
-                }
-            }
+            _ => {}
         }
         row
     }

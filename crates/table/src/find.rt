@@ -12,71 +12,37 @@ use ledger::{Place, Report};
 pub fn place_at<K: Key>(places: &[Place<K>], n: usize) -> Place<K>
     ensures answer { result ≡ slice_index_or places.now n free }
 {
-    if n < places.len() {
-        places[n]
-    } else {
-        Place::free()
-    }
-}
-
-// Whether it is the key's current version.
-fn is_current_of<K: Key>(place: Place<K>, key: K) -> bool
-    ensures answer { result ≡ is_current_of K.Key.order key place.state }
-{
-    place.is_current() && place.carries(key)
-}
-
-// Whether it is what a report with the stamp sees at the key.
-fn is_seen_of<K: Key>(place: Place<K>, stamp: u32, key: K) -> bool
-    ensures answer { result ≡ is_seen_of K.Key.order stamp key place.state }
-{
-    place.is_seen_at(stamp) && place.carries(key)
+    places.get(n).copied().unwrap_or(Place::free())
 }
 
 // A free place.
 pub fn find_free<K: Key>(places: &[Place<K>]) -> Option<usize>
     ensures answer { FindsPlace is_free places.now result }
 {
-    for (n, place) in places.iter().enumerate() {
-        if place.is_free() {
-            return Some(n);
-        }
-    }
-    None
+    places.iter().position(|place| place.is_free())
 }
 
 // A place that holds no wanted version.
 pub fn find_unwanted<K: Key>(places: &[Place<K>], reports: &[Report]) -> Option<usize>
     ensures answer { FindsPlace (λ p. not (is_wanted reports.now p)) places.now result }
 {
-    for (n, place) in places.iter().enumerate() {
-        if !place.is_wanted(reports) {
-            return Some(n);
-        }
-    }
-    None
+    places.iter().position(|place| !place.is_wanted(reports))
 }
 
 // The place of the key's current version.
 pub fn find_current<K: Key>(places: &[Place<K>], key: K) -> Option<usize>
     ensures answer { FindsPlace (is_current_of K.Key.order key) places.now result }
 {
-    for (n, place) in places.iter().enumerate() {
-        if is_current_of(*place, key) {
-            return Some(n);
-        }
-    }
-    None
+    places
+        .iter()
+        .position(|place| place.is_current() && place.carries(key))
 }
 
 // The place of the version that a report with the stamp sees at the key.
 pub fn find_seen<K: Key>(places: &[Place<K>], stamp: u32, key: K) -> Option<usize>
     ensures answer { FindsPlace (is_seen_of K.Key.order stamp key) places.now result }
 {
-    for (n, place) in places.iter().enumerate() {
-        if is_seen_of(*place, stamp, key) {
-            return Some(n);
-        }
-    }
-    None
+    places
+        .iter()
+        .position(|place| place.is_seen_at(stamp) && place.carries(key))
 }

@@ -1,78 +1,47 @@
 // Which job holds a key: the entry for it in a row, and the row of another job that has one.
-ghost use Rattle.table.specs.Holds.{carries_at, draft_at, entry_at, holds_key, other_holder, row_holds};
-ghost use Rattle.table.specs.Lists.{position};
-ghost use Rattle.table.specs.Rows.{draft_in};
-ghost use Rattle.std.specs.Prelude.{◌≡◌, not, ◌&&◌, ◌==◌};
+// Places and key go along as two arguments: nothing ties them, and a struct of both would be made anew for each call.
+ghost use Rattle.table.specs.Holds.{draft_at, entry_at, holds_key, other_holder, row_holds};
+ghost use Rattle.std.specs.Prelude.{◌≡◌};
 
+use crate::find::place_at;
 use crate::row::{HeldKey, Row};
 use keys::Key;
 use ledger::Place;
 
-// Whether there is the place, and it carries the key.
-fn carries_at<K: Key>(places: &[Place<K>], at: Option<usize>, key: K) -> bool
-    ensures answer { result ≡ carries_at K.Key.order places.now key at }
-{
-    match at {
-        Some(n) => n < places.len() && places[n].carries(key),
-        None => false,
-    }
-}
-
-// The first of the entries that holds the key.
-fn find_entry<K: Key>(places: &[Place<K>], entries: &[HeldKey], key: K) -> Option<usize>
-    ensures answer { result ≡ position (holds_key K.Key.order places.now key) entries.now }
-{
-    for (i, entry) in entries.iter().enumerate() {
-        if carries_at(places, entry.place(), key) {
-            return Some(i);
-        }
-    }
-    None
-}
-
-// The place of the draft in the entry at the position.
-fn draft_in(entries: &[HeldKey], at: Option<usize>) -> Option<usize>
-    ensures answer { result ≡ draft_in entries.now at }
-{
-    match at {
-        Some(i) => {
-            if i < entries.len() {
-                entries[i].draft
-            } else {
-                None
-            }
-        }
-        None => None,
+impl HeldKey {
+    // Whether it is the key that the entry's place carries.
+    fn holds<K: Key>(self, places: &[Place<K>], key: K) -> bool
+        ensures answer { result ≡ holds_key K.Key.order places.now key self }
+    {
+        self.place()
+            .is_some_and(|n| place_at(places, n).carries(key))
     }
 }
 
 impl Row {
     // The position of the entry for the key.
+    #[tactic(auto, unfolding(crate::specs::Lists::position))]
     pub fn entry_for<K: Key>(&self, places: &[Place<K>], key: K) -> Option<usize>
         ensures answer { result ≡ entry_at K.Key.order places.now key self.now }
     {
-        find_entry(places, self.in_use(), key)
+        self.in_use()
+            .iter()
+            .position(|entry| entry.holds(places, key))
     }
 
     // Whether the job holds the key.
     pub fn holds<K: Key>(&self, places: &[Place<K>], key: K) -> bool
         ensures answer { result ≡ row_holds K.Key.order places.now key self.now }
     {
-        self.entry_for(places, key).is_some()
-    }
-
-    // Whether it is the row of another job than this one, which holds the key.
-    fn is_other_holder<K: Key>(&self, places: &[Place<K>], ticket: u32, key: K) -> bool
-        ensures answer { result ≡ (not (self.now.ticket == ticket) && row_holds K.Key.order places.now key self.now) }
-    {
-        self.ticket != ticket && self.holds(places, key)
+        self.in_use().iter().any(|entry| entry.holds(places, key))
     }
 
     // The place of the job's draft at the key.
     pub fn draft_for<K: Key>(&self, places: &[Place<K>], key: K) -> Option<usize>
         ensures answer { result ≡ draft_at K.Key.order places.now key self.now }
     {
-        draft_in(self.in_use(), self.entry_for(places, key))
+        let at = self.entry_for(places, key)?;
+        self.in_use().get(at)?.draft
     }
 }
 
@@ -80,10 +49,7 @@ impl Row {
 pub fn other_holder<K: Key>(places: &[Place<K>], rows: &[Row], ticket: u32, key: K) -> Option<u32>
     ensures answer { result ≡ other_holder K.Key.order places.now key ticket rows.now }
 {
-    for row in rows {
-        if row.is_other_holder(places, ticket, key) {
-            return Some(row.ticket);
-        }
-    }
-    None
+    rows.iter()
+        .find(|row| row.ticket != ticket && row.holds(places, key))
+        .map(|row| row.ticket)
 }

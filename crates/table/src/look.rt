@@ -1,4 +1,5 @@
 // What a job finds at a key, and the hold that a look takes.
+// Row and key go along as two arguments: the row is the job's, as the check of its ticket found it, and the key is the caller's.
 ghost use Rattle.keys.specs.Refusals.{plain, told};
 ghost use Rattle.ledger.specs.Refusals.{code};
 ghost use Rattle.ledger.specs.Words.{when};
@@ -29,13 +30,7 @@ impl<K: Key> Table<K> {
         ensures answer { Sees K.Key.order self.now.places.items key (draft_at K.Key.order self.now.places.items key row) result }
     {
         match row.draft_for(&self.places, key) {
-            Some(draft) => {
-                if is_unstamped(place_at(&self.places, draft)) {
-                    Some(draft)
-                } else {
-                    None
-                }
-            }
+            Some(draft) => is_unstamped(place_at(&self.places, draft)).then_some(draft),
             None => find_current(&self.places, key),
         }
     }
@@ -44,10 +39,8 @@ impl<K: Key> Table<K> {
     pub fn check_there(&self, row: Row, key: K) -> Result<(), Refusal>
         ensures answer { told code result ≡ unless (when (not (record_by K.Key.order self.now.places.items key (draft_at K.Key.order self.now.places.items key row))) (plain 8)) tt }
     {
-        match self.sees(row, key) {
-            Some(_) => Ok(()),
-            None => Err(Refusal::NothingThere),
-        }
+        self.sees(row, key).ok_or(Refusal::NothingThere)?;
+        Ok(())
     }
 
     // Notes the entry in the row, as one more or in the place of the one at the position.
@@ -62,23 +55,18 @@ impl<K: Key> Table<K> {
         ensures answer { told code result ≡ unless (when (not (is_some (entry_at K.Key.order self.old.places.items key row)) && is_row_full row && is_some place) (plain 9)) tt }
         ensures after { view self.new ≡ if_granted result (held (view self.old) row (entry_at K.Key.order self.old.places.items key row) place) (view self.old) }
     {
-        match (row.entry_for(&self.places, key), place) {
-            (None, Some(n)) => {
-                if row.is_full() {
-                    return Err(Refusal::RowFull);
-                }
-                self.jobs.replace(row.noted(
-                    None,
-                    HeldKey {
-                        draft: None,
-                        current: Some(n),
-                    },
-                ));
-                Ok(())
-            }
-            (Some(_), _) => Ok(()),
-            (None, None) => Ok(()),
+        if place.is_some() && row.entry_for(&self.places, key).is_none() {
+            row.check_room(None)?;
+            self.note(
+                row,
+                None,
+                HeldKey {
+                    draft: None,
+                    current: place,
+                },
+            );
         }
+        Ok(())
     }
 
     // The record that the job finds at the key; a current version that it finds it holds from now on.

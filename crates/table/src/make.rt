@@ -9,17 +9,6 @@ use keys::Key;
 use ledger::Place;
 use std::alloc::{AllocError, Global};
 
-// So many free places.
-fn free_places<K: Key>(heap: Global, count: usize) -> Result<Vec<Place<K>>, AllocError>
-    ensures answer { IfOk result (λ places. places.items ≡ replicate count free) }
-{
-    let mut places = Vec::new(heap);
-    for _i in 0..count {
-        places.push(Place::free())?;
-    }
-    Ok(places)
-}
-
 impl<K: Key> Table<K> {
     pub fn new(
         heap: Global,
@@ -30,16 +19,13 @@ impl<K: Key> Table<K> {
     ) -> Result<Table<K>, AllocError>
         ensures answer { IfOk result (λ table. view table ≡ new_view store places stamp next) }
     {
-        let places = free_places(heap, places)?;
-        let reports = OpenList::new(heap)?;
-        let jobs = OpenList::new(heap)?;
         Ok(Table {
             store,
             stamp,
             next,
-            places,
-            reports,
-            jobs,
+            places: vec![in heap; Place::free(); places]?,
+            reports: OpenList::new(heap)?,
+            jobs: OpenList::new(heap)?,
         })
     }
 }

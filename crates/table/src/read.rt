@@ -15,10 +15,7 @@ use ledger::{Refusal, TicketId};
 pub fn record_at<R: Copy>(shelf: &[R], place: Option<usize>) -> Option<R>
     ensures answer { result ≡ record_at shelf.now place }
 {
-    match place {
-        Some(n) => shelf.get(n).copied(),
-        None => None,
-    }
+    shelf.get(place?).copied()
 }
 
 impl<K: Key> Table<K> {

@@ -14,7 +14,7 @@ pub struct HeldKey {
 pub struct Row {
     // the running number of the job's ticket
     pub ticket: u32,
-    // how many entries are used, from the first on
+    // how many entries are used, from the first on; a count beside an array, since a row is fixed memory and copied by value
     pub used: usize,
     pub entries: [HeldKey; ROW_ENTRIES],
 }

@@ -1,11 +1,9 @@
-use Rattle.std.proofs.Common.{sym}
+use Rattle.std.proofs.Common.{rules, tests}
+use Rattle.std.proofs.lemmas.Iterator.{YieldsList-from_slice}
+use Rattle.ledger.specs.Places.{free}
+use Rattle.table.proofs.Finding.{finds_from_position}
 use Rattle.table.specs.Reads.{is_seen_of}
-use Rattle.table.proofs.Positions.{search_more, search_none}
 use Rattle.table.proofs.find.find_seen.Goals as goal
 
-pub loop-n-preserved : goal.loop-n-preserved
-loop-n-preserved g c =
-    search_more (λ p. is_seen_of g.K.Key.order c.args.stamp c.args.key p.state) c.args.places.now c.loop-n.n c.index-places-n.result c.loop-n-test.true c.index-places-n.is (sym c.if-is_seen_of.ensures.answer) c.loop-n.invariant
-
 pub returns : goal.returns
-returns g c = record { answer = search_none (λ p. is_seen_of g.K.Key.order c.args.stamp c.args.key p.state) c.args.places.now c.loop-n.n c.loop-n-test.false c.loop-n.invariant }
+returns g c = record { answer = finds_from_position free (λ p. is_seen_of g.K.Key.order c.args.stamp c.args.key p.state) _ _ _ c.position.ensures.ran (YieldsList-from_slice c.args.places.now cc) (λ x b q k. search (rules, tests)) }

@@ -1,11 +1,8 @@
-use Rattle.std.proofs.Common.{not, sym, ap}
-use Rattle.ledger.specs.Places.{is_wanted}
-use Rattle.table.proofs.Positions.{search_more, search_none}
+use Rattle.std.proofs.Common.{not, rules, tests}
+use Rattle.std.proofs.lemmas.Iterator.{YieldsList-from_slice}
+use Rattle.ledger.specs.Places.{free, is_wanted}
+use Rattle.table.proofs.Finding.{finds_from_position}
 use Rattle.table.proofs.find.find_unwanted.Goals as goal
 
-pub loop-n-preserved : goal.loop-n-preserved
-loop-n-preserved g c =
-    search_more (λ p. not (is_wanted c.args.reports.now p.state)) c.args.places.now c.loop-n.n c.index-places-n.result c.loop-n-test.true c.index-places-n.is (ap not (sym c.if-not-is_wanted.ensures.answer)) c.loop-n.invariant
-
 pub returns : goal.returns
-returns g c = record { answer = search_none (λ p. not (is_wanted c.args.reports.now p.state)) c.args.places.now c.loop-n.n c.loop-n-test.false c.loop-n.invariant }
+returns g c = record { answer = finds_from_position free (λ p. not (is_wanted c.args.reports.now p.state)) _ _ _ c.position.ensures.ran (YieldsList-from_slice c.args.places.now cc) (λ x b q k. search (rules, tests)) }

@@ -1,20 +1,13 @@
-use Rattle.std.proofs.Common.{Some, sym, ap, ◌∙◌, subst, arith}
-use Rattle.table.proofs.Positions.{AtTicket, NoTicket, at_ticket, no_ticket}
+use Rattle.std.proofs.Common.{Some, sym, ap, ◌∙◌}
+use Rattle.table.proofs.Tickets.{at_ticket, no_ticket}
 use Rattle.table.proofs.open_list.OpenList.take.Goals as goal
 
-pub remove-requires : goal.remove-requires
-remove-requires g c =
-    let at = at_ticket g.T.Ticketed.number c.args.ticket c.deref.result.now c.in-Some.i (sym c.in-Some.ensures.answer) in
-    omega (arith, at.within, c.deref.ensures.len)
+pub returns-in_err-i : goal.returns-in_err-i
+returns-in_err-i g c =
+    let none = no_ticket g.T.Ticketed.number c.args.ticket c.args.self.now.items.items (sym c.in_err-i.ensures.answer) in
+    record { answer = c.from_residual.ensures ∙ sym none.found; after = sym none.rest }
 
-pub returns-in-Some : goal.returns-in-Some
-returns-in-Some g c =
-    let at = subst (λ xs. AtTicket g.T.Ticketed.number c.args.ticket xs c.in-Some.i) c.deref.ensures.value
-    (at_ticket g.T.Ticketed.number c.args.ticket c.deref.result.now c.in-Some.i (sym c.in-Some.ensures.answer)) in
+pub returns : goal.returns
+returns g c =
+    let at = at_ticket g.T.Ticketed.number c.args.ticket c.args.self.now.items.items c.in_ok-i.i (sym c.in_ok-i.ensures.answer) in
     record { answer = ap Some c.remove.ensures.value ∙ sym (at.found c.remove.result); after = c.remove.ensures.items ∙ sym at.rest }
-
-pub returns-in-None : goal.returns-in-None
-returns-in-None g c =
-    let none = subst (NoTicket g.T.Ticketed.number c.args.ticket) c.deref.ensures.value
-    (no_ticket g.T.Ticketed.number c.args.ticket c.deref.result.now (sym c.in-None.ensures.answer)) in
-    record { answer = sym none.found; after = sym none.rest }
