@@ -2,51 +2,27 @@
 -- Every number stays right: a place that takes a key up has no number yet or one of that very key, so adding the key with its
 -- number is granted or finds the key numbered already; a place that becomes free gives its number back. A number that was given
 -- back is the only way for a key to lose its own, and adding every carried key once more makes that good.
-use Rattle.std.proofs.Common.{◌≡◌, ℕ, zero, suc, ◌+◌, ◌<◌, ◌≤◌, Bool, true, false, ◌||◌, List, [], ◌∷◌, length, set, is_ok, Some, None, vec_items, Option, Ordering, sym, refl, ap, ◌∙◌, subst, ⊎_elim, arith}
-use Rattle.engine.specs.Agreement.{Agree, AgreeBut, Indexed, IndexedBut, Keeps, KeepsBut, loses, told_of}
-use Rattle.engine.specs.declared.store.Store.{Store}
-use Rattle.index.proofs.Nth.{nth_set_same, nth_set_other, nth_within}
+use Rattle.std.proofs.Common.{◌≡◌, ℕ, zero, suc, ◌+◌, ◌<◌, ◌≤◌, Bool, false, ◌||◌, List, [], ◌∷◌, length, set, is_ok, Some, None, Option, Ordering, sym, refl, ap, ◌∙◌, subst, ⊎_elim, arith}
+use Rattle.engine.specs.Agreement.{Agree, AgreeBut, KeepsAt, loses, told_of}
+use Rattle.std.proofs.lemmas.Option.{slice_get_within}
+use Rattle.index.proofs.Nth.{nth_set_same, nth_set_other}
 use Rattle.index.proofs.Slots.{maps_cleared, maps_set, number_maps}
 use Rattle.index.specs.Slots.{Maps, add_by, added, discard_answer, discard_by, discarded, if_granted, number_of}
 use Rattle.keys.specs.Orders.{Total}
-use Rattle.ledger.specs.Places.{free, key_of}
+use Rattle.ledger.specs.Places.{after, free, key_of}
 use Rattle.ledger.specs.declared.place.Place.{Place}
-use Rattle.std.proofs.lemmas.List.{get_or-set_other, get_or-set_same, length-set}
+use Rattle.ledger.specs.declared.place.PlaceEvent.{PlaceEvent}
+use Rattle.std.proofs.lemmas.List.{get_or_read, get_or-set_other, get_or-set_same, length-set, set-get_or}
 use Rattle.std.proofs.lemmas.Bool.{cases_eq}
+use Rattle.std.proofs.Math.Bool.{or_comm}
+use Rattle.std.proofs.Math.Logic.{∥∥₁_map}
 use Rattle.std.specs.List.{slice_get}
 use Rattle.table.specs.Views.{at}
-use Rattle.engine.proofs.KeysKept.{clash, same_some}
-
-pub agree_but : {K : Type 0} (slots : List (Option K)) (places : List (Place K)) → Agree slots places → AgreeBut false slots places
-agree_but slots places a = record { enough = a.enough; numbered = a.numbered; listed = λ _. a.listed }
-
-pub agree : {K : Type 0} (slots : List (Option K)) (places : List (Place K)) → AgreeBut false slots places → Agree slots places
-agree slots places a = record { enough = a.enough; numbered = a.numbered; listed = a.listed refl }
-
-regroup : (a b c : Bool) → (b || (a || c)) ≡ ((a || b) || c)
-regroup true true c = refl
-regroup true false c = refl
-regroup false true c = refl
-regroup false false c = refl
-
-module _ {I K : Type 0} (sound : I → Type 0) (slots : I → List (Option K)) where
-  -- two parts of a call, one after the other
-  pub keeps_more : (a b : Bool) (s t u : Store I K) → KeepsBut sound slots a s t → KeepsBut sound slots b t u → KeepsBut sound slots (a || b) s u
-  keeps_more a b s t u first second before x = subst (λ lost. IndexedBut sound slots lost u) (regroup a b before) (second (a || before) (first before x))
-
-  -- no key has lost its number
-  pub keeps_all : (lost : Bool) (s t : Store I K) → lost ≡ false → KeepsBut sound slots lost s t → Keeps sound slots s t
-  keeps_all lost s t none part x =
-      let y = subst (λ b. IndexedBut sound slots (b || false) t) none (part false (x.0, agree_but (slots s.index) (vec_items s.table.places) x.1)) in
-      (y.0, agree (slots t.index) (vec_items t.table.places) y.1)
-
-  -- keys that have lost their numbers were listed again
-  pub keeps_relisted : (lost : Bool) (s t u : Store I K) → KeepsBut sound slots lost s t → ((b : Bool) → IndexedBut sound slots b t → Indexed sound slots u) → Keeps sound slots s u
-  keeps_relisted lost s t u part relist x = relist (lost || false) (part false (x.0, agree_but (slots s.index) (vec_items s.table.places) x.1))
+use Rattle.engine.proofs.KeysKept.{key_kept}
 
 -- a place that carries a key is one of the places
 pub carries_below : {K : Type 0} (places : List (Place K)) (n : ℕ) (key : K) → key_of (at places n) ≡ Some key → n < length places
-carries_below [] n key e = absurd (clash key e)
+carries_below [] n key e = cc
 carries_below (p ∷ places) zero key e = omega arith
 carries_below (p ∷ places) (suc n) key e = let h : n < length places = carries_below places n key e in omega arith
 
@@ -71,10 +47,10 @@ module _ {K : Type 0} (order : K → K → Ordering) (total : Total order) (slot
     where
       past : (xs : List (Option K)) (i : ℕ) → slice_get xs i ≡ None → i < length xs → ⊥
       past [] i e l = omega arith
-      past (x ∷ xs) zero e l = clash x (sym e)
+      past (x ∷ xs) zero e l = cc
       past (x ∷ xs) (suc i) e l = past xs i e (omega arith)
   by_slot (Some (Some k)) s found f =
-      record { long = refl; right = numbered; grows = λ m q e. e; has_number = (n, s ∙ ap (λ (x : K). Some (Some x)) (same_some k key (sym (numbered n k s) ∙ here))) }
+      record { long = refl; right = numbered; grows = λ m q e. e; has_number = (n, let h = numbered n k s in cc) }
   by_slot (Some None) s (Some m) f = record { long = refl; right = numbered; grows = λ j q e. e; has_number = (m, number_maps order total slots key m f) }
   by_slot (Some None) s None f = record {
     long = length-set slots n (Some key);
@@ -83,10 +59,10 @@ module _ {K : Type 0} (order : K → K → Ordering) (total : Total order) (slot
         (λ x. numbered m k x.1)
         (maps_set slots n m key k s e);
     grows = λ m k e. ⊎_elim
-        (λ x. let free : slice_get slots m ≡ Some None = subst (λ (j : ℕ). slice_get slots j ≡ Some None) (sym x) s in let z : ◌≡◌ {A = ℕ} 0 1 = cc in absurd (omega arith))
+        (λ x. let free : slice_get slots m ≡ Some None = subst (λ (j : ℕ). slice_get slots j ≡ Some None) (sym x) s in cc)
         (λ x. nth_set_other slots n m (Some key) x ∙ e)
         (cases_eq m n);
-    has_number = (n, nth_set_same slots n (Some key) (nth_within slots n None s));
+    has_number = (n, nth_set_same slots n (Some key) (slice_get_within slots n None s));
   }
 
   pub key_added : Added (added order slots key n)
@@ -101,7 +77,7 @@ taken_up {K} order total lost slots places n p key below is kept a = record {
   numbered = added_so.right;
   listed = λ none j k e. ⊎_elim
       (λ x. let m = added_so.has_number in
-      let same : k ≡ key = same_some k key (sym (subst (λ (i : ℕ). key_of (at (set places n p) i) ≡ Some k) x e) ∙ here) in
+      let same : k ≡ key = (let h = subst (λ (i : ℕ). key_of (at (set places n p) i) ≡ Some k) x e in cc here) in
       (m.0, subst (Maps (added order slots key n) m.0) (sym same) m.1))
       (λ x. let m = a.listed none j k (sym (ap key_of (at_set_other places n j p x)) ∙ e) in (m.0, added_so.grows m.0 k m.1))
       (cases_eq j n);
@@ -133,7 +109,7 @@ given_back {K} lost slots places n p below is a = by_slot (slice_get slots n) re
     still j k ne e = ap key_of (at_set_other places n j p ne) ∙ a.numbered j k e
 
     elsewhere : (j : ℕ) (k : K) → key_of (at (set places n p) j) ≡ Some k → j ≡ n → ⊥
-    elsewhere j k e x = clash k (sym is ∙ (sym (ap key_of (at_set_same places n p below)) ∙ subst (λ (i : ℕ). key_of (at (set places n p) i) ≡ Some k) x e))
+    elsewhere j k e x = let h = subst (λ (i : ℕ). key_of (at (set places n p) i) ≡ Some k) x e in cc (ap key_of (at_set_same places n p below))
 
     before : (j : ℕ) (k : K) → key_of (at (set places n p) j) ≡ Some k → key_of (at places j) ≡ Some k
     before j k e = sym (ap key_of (at_set_other places n j p (elsewhere j k e))) ∙ e
@@ -149,12 +125,12 @@ given_back {K} lost slots places n p below is a = by_slot (slice_get slots n) re
     }
 
     by_slot : (slot : Option (Option K)) → slice_get slots n ≡ slot → AgreeBut (is_ok (discard_by slot) || lost) (if_granted (discard_by slot) (set slots n None) slots) (set places n p)
-    by_slot None s = unnumbered None s (λ k e. let z : ◌≡◌ {A = ℕ} 0 1 = cc in omega arith)
-    by_slot (Some None) s = unnumbered (Some None) s (λ k e. let z : ◌≡◌ {A = ℕ} 0 1 = cc in omega arith)
+    by_slot None s = unnumbered None s (λ k e. cc)
+    by_slot (Some None) s = unnumbered (Some None) s (λ k e. cc)
     by_slot (Some (Some key)) s = record {
       enough = let e = length-set slots n None in let h = room in omega arith;
       numbered = λ j k e. let m = maps_cleared slots n j k e in still j k m.1 m.0;
-      listed = λ e. absurd (let z : ◌≡◌ {A = ℕ} 0 1 = cc in omega arith);
+      listed = λ e. cc;
     }
 
 -- a place changes, and the index was told what it carries now
@@ -163,6 +139,20 @@ pub told_agrees : {K : Type 0} (order : K → K → Ordering) (total : Total ord
     AgreeBut lost slots places → AgreeBut (loses slots n key || lost) (told_of order slots n key) (set places n p)
 told_agrees order total lost slots places n p (Some key) below is kept a = taken_up order total lost slots places n p key below is (λ k e. kept k key e is) a
 told_agrees order total lost slots places n p None below is kept a = given_back lost slots places n p below is a
+
+-- the same of an event, as a part of a call
+pub event_keeps : {K : Type 0} {order : K → K → Ordering} (total : Total order) {slots : List (Option K)} {n : ℕ} {x p : Place K} (event : PlaceEvent K) {key : Option K} →
+    p ≡ after x event → key ≡ key_of p.state → KeepsAt (loses slots n key) n slots x (told_of order slots n key) p
+event_keeps {K} {order} total {slots} {n} {x} {p} event {key} next is places below read before a =
+    ∥∥₁_map a (λ b. subst (λ lost. AgreeBut lost (told_of order slots n key) (set places n p)) (or_comm (loses slots n key) before) (told_agrees order total before slots places n p key below (sym is) kept b))
+  where
+    kept : (k q : K) → key_of (at places n) ≡ Some k → key_of p.state ≡ Some q → k ≡ q
+    kept k q e h = key_kept x.state event k q (ap (λ y. key_of y.state) (get_or_read places n x below read free) ∙ e) (sym (ap (λ y. key_of y.state) next) ∙ h)
+
+-- a place that stays as it was
+pub same_keeps : {K : Type 0} (slots : List (Option K)) (n : ℕ) (x : Place K) → KeepsAt false n slots x slots x
+same_keeps slots n x places below read before a =
+    subst (λ ps. ∥ AgreeBut (before || false) slots ps ∥₁) (sym (set-get_or places n x) ∙ ap (set places n) (sym read)) (subst (λ lost. ∥ AgreeBut lost slots places ∥₁) (or_comm false before) a)
 
 -- the keys of the first n places have numbers again
 pub record ListedTo {K : Type 0} (n : ℕ) (slots : List (Option K)) (places : List (Place K)) : Type 0 where
@@ -180,7 +170,7 @@ module _ {K : Type 0} (slots : List (Option K)) (places : List (Place K)) (n : �
     enough = a.enough;
     numbered = a.numbered;
     listed = λ j key below e. ⊎_elim
-        (λ x. absurd (clash key (sym none ∙ subst (λ (i : ℕ). key_of (at places i) ≡ Some key) x e)))
+        (λ x. let h = subst (λ (i : ℕ). key_of (at places i) ≡ Some key) x e in cc)
         (λ x. a.listed j key (omega arith) e)
         (cases_eq j n);
   }
@@ -194,7 +184,7 @@ module _ {K : Type 0} (slots : List (Option K)) (places : List (Place K)) (n : �
         numbered = so.right;
         listed = λ j k below e. ⊎_elim
             (λ x. let m = so.has_number in
-            (m.0, subst (Maps (added order slots key n) m.0) (same_some key k (sym here ∙ subst (λ (i : ℕ). key_of (at places i) ≡ Some k) x e)) m.1))
+            (m.0, subst (Maps (added order slots key n) m.0) (let h = subst (λ (i : ℕ). key_of (at places i) ≡ Some k) x e in cc) m.1))
             (λ x. let m = a.listed j k (omega arith) e in (m.0, so.grows m.0 k m.1))
             (cases_eq j n);
       }
@@ -203,5 +193,5 @@ module _ {K : Type 0} (slots : List (Option K)) (places : List (Place K)) (n : �
   listed_all past = record {
     enough = a.enough;
     numbered = a.numbered;
-    listed = λ j key e. a.listed j key (let l = carries_below places j key e in omega arith) e;
+    listed = λ none j key e. a.listed j key (let l = carries_below places j key e in omega arith) e;
   }

@@ -1,7 +1,7 @@
 -- A walk through the keys of an index, one after the other. Everything visible beyond the given key is still ahead: the walk
--- has come to the least key beyond some key `from`, and whatever was passed over is not visible. Each step leaves one key fewer
--- ahead, so as many steps as there are slots come to an end.
-use Rattle.std.proofs.Common.{◌≡◌, ℕ, zero, suc, ◌+◌, ◌≤◌, Bool, true, false, cond, ◌&&◌, ◌⊎◌, List, [], ◌∷◌, length, Some, None, Option, Ordering, Less, Equal, Greater, sym, refl, ap, ◌∙◌, subst, inl, inr, ⊎_elim, arith}
+-- has come to the least key beyond some key `from`, and whatever was passed over is not visible. Each step leaves fewer keys
+-- ahead, so the walk comes to an end.
+use Rattle.std.proofs.Common.{◌≡◌, ℕ, zero, suc, ◌<◌, ◌≤◌, Bool, true, false, cond, ◌&&◌, ◌⊎◌, List, [], ◌∷◌, Some, None, Option, Ordering, Less, Equal, Greater, sym, refl, ap, ◌∙◌, subst, inl, inr, ⊎_elim, arith}
 use Rattle.index.proofs.Leasts.{least_is_least}
 use Rattle.index.specs.Ordered.{Beyond, LeastBeyond, least}
 use Rattle.index.specs.Slots.{Maps}
@@ -9,6 +9,7 @@ use Rattle.keys.specs.Orders.{Total}
 use Rattle.ledger.specs.Laws.{Least}
 use Rattle.ledger.specs.Words.{beyond}
 use Rattle.std.proofs.lemmas.Bool.{and_parts, both_ways}
+use Rattle.std.specs.Coded.{coded_bool, Coded-set, ×_prop, Π_prop}
 use Rattle.std.specs.Ordering.{is_lt}
 
 lt_true : (o : Ordering) → is_lt o ≡ true → o ≡ Less
@@ -38,29 +39,10 @@ module _ {K : Type 0} (order : K → K → Ordering) where
   count_beyond from (None ∷ slots) = count_beyond from slots
   count_beyond from (Some key ∷ slots) = cond (beyond order from key) (suc (count_beyond from slots)) (count_beyond from slots)
 
-  bound : (from : Option K) (slots : List (Option K)) → count_beyond from slots ≤ length slots
-  bound from [] = omega arith
-  bound from (None ∷ slots) = let h : count_beyond from slots ≤ length slots = bound from slots in omega arith
-  bound from (Some key ∷ slots) = go (beyond order from key) (bound from slots)
-    where
-      go : (b : Bool) → count_beyond from slots ≤ length slots → cond b (suc (count_beyond from slots)) (count_beyond from slots) ≤ suc (length slots)
-      go true h = omega arith
-      go false h = omega arith
-
-  -- a key that is beyond is counted
-  counted : (from : Option K) (slots : List (Option K)) (m : ℕ) (key : K) → Maps slots m key → beyond order from key ≡ true → 1 ≤ count_beyond from slots
-  counted from [] m key e on = let z : ◌≡◌ {A = ℕ} 0 1 = cc in absurd (omega arith)
-  counted from (None ∷ slots) zero key e on = let z : ◌≡◌ {A = ℕ} 0 1 = cc in absurd (omega arith)
-  counted from (None ∷ slots) (suc m) key e on = counted from slots m key e on
-  counted from (Some k ∷ slots) zero key e on =
-      let same : k ≡ key = cc in
-      let here : beyond order from k ≡ true = subst (λ (x : K). beyond order from x ≡ true) (sym same) on in
-      rw here (omega arith)
-  counted from (Some k ∷ slots) (suc m) key e on = go (beyond order from k) (counted from slots m key e on)
-    where
-      go : (b : Bool) → 1 ≤ count_beyond from slots → 1 ≤ cond b (suc (count_beyond from slots)) (count_beyond from slots)
-      go true h = omega arith
-      go false h = h
+  -- how many keys a walk may still come to
+  abbrev pub left_of : List (Option K) → Option (K × ℕ) → ℕ
+  left_of slots None = 0
+  left_of slots (Some pair) = suc (count_beyond (Some pair.0) slots)
 
   module _ (from to : Option K) (further : (q : K) → beyond order to q ≡ true → beyond order from q ≡ true) where
     by_tests : (a b : Bool) (m n : ℕ) → (b ≡ true → a ≡ true) → m ≤ n → cond b (suc m) m ≤ cond a (suc n) n
@@ -76,8 +58,8 @@ module _ {K : Type 0} (order : K → K → Ordering) where
 
     -- a key that is beyond the one and not the other
     fewer : (slots : List (Option K)) (m : ℕ) (key : K) → Maps slots m key → beyond order from key ≡ true → beyond order to key ≡ false → suc (count_beyond to slots) ≤ count_beyond from slots
-    fewer [] m key e on off = let z : ◌≡◌ {A = ℕ} 0 1 = cc in absurd (omega arith)
-    fewer (None ∷ slots) zero key e on off = let z : ◌≡◌ {A = ℕ} 0 1 = cc in absurd (omega arith)
+    fewer [] m key e on off = cc
+    fewer (None ∷ slots) zero key e on off = cc
     fewer (None ∷ slots) (suc m) key e on off = fewer slots m key e on off
     fewer (Some k ∷ slots) zero key e on off =
         let same : key ≡ k = cc in
@@ -108,73 +90,81 @@ module _ {K : Type 0} (order : K → K → Ordering) (total : Total order) where
   further_on None key q on l = refl
   further_on (Some f) key q on l = ap is_lt (total.passes f key q (lt_true (order f key) on) l)
 
-  module _ (slots : List (Option K)) (visible : K → Bool) (after : Option K) where
-    abbrev pub Wanted : K → Bool
-    Wanted q = visible q && beyond order after q
+pub left_falls : {K : Type 0} {order : K → K → Ordering} → Total order → (slots : List (Option K)) (key : K) → left_of order slots (least order (Some key) slots) < suc (count_beyond order (Some key) slots)
+left_falls {K} {order} total slots key = go (least order (Some key) slots) (least_is_least order total (Some key) slots)
+  where
+    go : (found : Option (K × ℕ)) → LeastBeyond order (Some key) slots found → left_of order slots found < suc (count_beyond order (Some key) slots)
+    go None h = omega arith
+    go (Some pair) h =
+        let f = fewer order (Some key) (Some pair.0) (λ q on. further_on order total (Some key) pair.0 q (ap is_lt h.1) (lt_true (order pair.0 q) on)) slots pair.1 pair.0 h.0 (ap is_lt h.1) (ap is_lt (total.itself pair.0)) in
+        omega arith
 
-    -- how far a walk has come
-    pub record Cursor (at : Option (K × ℕ)) (steps : ℕ) : Type 0 where
-      pub from : Option K
-      pub next : at ≡ least order from slots
-      -- what is beyond the key is beyond the given one
-      pub within : (q : K) → beyond order from q ≡ true → beyond order after q ≡ true
-      -- nothing visible was passed over
-      pub ahead : (q : K) → Wanted q ≡ true → beyond order from q ≡ true
-      pub few : steps + count_beyond order from slots ≤ length slots
+-- the key that a walk has come to has its number
+pub least_maps : {K : Type 0} {order : K → K → Ordering} → Total order → (from : Option K) (slots : List (Option K)) {at : Option (K × ℕ)} {key : K} {number : ℕ} → at ≡ least order from slots → at ≡ Some (key, number) → Maps slots number key
+least_maps {order = order} total from slots e is = (subst (LeastBeyond order from slots) (sym e ∙ is) (least_is_least order total from slots)).0
 
-    pub cursor_start : (at : Option (K × ℕ)) → at ≡ least order after slots → Cursor at 0
-    cursor_start at e = record {
-      from = after;
-      next = e;
-      within = λ q on. on;
-      ahead = λ q w. (and_parts (visible q) (beyond order after q) w).1;
-      few = let h : count_beyond order after slots ≤ length slots = bound order after slots in omega arith;
-    }
+-- the keys that are looked for
+abbrev pub wanted : {K : Type 0} → (K → K → Ordering) → (K → Bool) → Option K → K → Bool
+wanted order visible after q = visible q && beyond order after q
 
-    module _ (steps : ℕ) (key : K) (number : ℕ) (c : Cursor (Some (key, number)) steps) where
-      come_to : LeastBeyond order c.from slots (Some (key, number))
-      come_to = subst (LeastBeyond order c.from slots) (sym c.next) (least_is_least order total c.from slots)
+-- how far a walk has come
+pub record Cursor {K : Type 0} (order : K → K → Ordering) (slots : List (Option K)) (visible : K → Bool) (after : Option K) (at : Option (K × ℕ)) : Type 0 where
+  pub from : Option K
+  pub next : at ≡ least order from slots
+  -- what is beyond the key is beyond the given one
+  pub within : (q : K) → beyond order from q ≡ true → beyond order after q ≡ true
+  -- nothing visible was passed over
+  pub ahead : (q : K) → wanted order visible after q ≡ true → beyond order from q ≡ true
 
-      pub cursor_maps : Maps slots number key
-      cursor_maps = come_to.0
+-- each key that is visible has a number
+abbrev pub Carried : {K : Type 0} → List (Option K) → (K → Bool) → Type 0
+Carried {K} slots visible = (q : K) → visible q ≡ true → (m : ℕ) × Maps slots m q
 
-      here : beyond order c.from key ≡ true
-      here = tests_beyond c.from key come_to.1
+pub least_prop : {K : Type 0} (order : K → K → Ordering) (test : K → Bool) (answer : Option K) → IsProp (Least order test answer)
+least_prop order test None = Π_prop λ q. Coded-set coded_bool _ _
+least_prop order test (Some k) = ×_prop (Coded-set coded_bool _ _) (Π_prop λ q. Π_prop λ w. Coded-set coded_bool _ _)
 
-      module _ (carried : (q : K) → visible q ≡ true → (m : ℕ) × Maps slots m q) where
-        -- no wanted key is less than the one that the walk has come to
-        none_less : (q : K) → Wanted q ≡ true → order q key ≡ Less → ⊥
-        none_less q w l = let m = carried q (and_parts (visible q) (beyond order after q) w).0 in come_to.2 m.0 q m.1 (is_beyond c.from q (c.ahead q w)) l
+module _ {K : Type 0} {order : K → K → Ordering} (total : Total order) {slots : List (Option K)} {visible : K → Bool} {after : Option K} where
+  pub cursor_start : {at : Option (K × ℕ)} → at ≡ least order after slots → Cursor order slots visible after at
+  cursor_start e = record {
+    from = after;
+    next = e;
+    within = λ q on. on;
+    ahead = λ q w. (and_parts (visible q) (beyond order after q) w).1;
+  }
 
-        pub cursor_found : visible key ≡ true → Least order Wanted (Some key)
-        cursor_found on = (rw (on, c.within key here), λ q w. lt_false (order q key) (none_less q w))
+  module _ {key : K} {number : ℕ} (c : Cursor order slots visible after (Some (key, number))) where
+    come_to : LeastBeyond order c.from slots (Some (key, number))
+    come_to = subst (LeastBeyond order c.from slots) (sym c.next) (least_is_least order total c.from slots)
 
-        pub cursor_next : visible key ≡ false → Cursor (least order (Some key) slots) (steps + 1)
-        cursor_next off = record {
-          from = Some key;
-          next = refl;
-          within = λ q on. further_on after key q (c.within key here) (lt_true (order key q) on);
-          ahead = λ q w. ⊎_elim
-              (λ l. ap is_lt l)
-              (⊎_elim
-              (λ e. let same : key ≡ q = total.same key q e in absurd (both_ways (visible key) off (subst (λ (x : K). visible x ≡ true) (sym same) (and_parts (visible q) (beyond order after q) w).0)))
-              (λ g. absurd (none_less q w (total.back key q g))))
-              (one_of (order key q));
-          few =
-              let h = fewer order c.from (Some key) (λ q on. further_on c.from key q here (lt_true (order key q) on)) slots number key cursor_maps here (ap is_lt (total.itself key)) in
-              let f = c.few in
-              omega arith;
-        }
+    pub cursor_maps : Maps slots number key
+    cursor_maps = come_to.0
 
-    module _ (carried : (q : K) → visible q ≡ true → (m : ℕ) × Maps slots m q) (at : Option (K × ℕ)) (steps : ℕ) (c : Cursor at steps) where
-      pub cursor_none : at ≡ None → Least order Wanted None
-      cursor_none e q = never_true (Wanted q) (λ w.
-          let m = carried q (and_parts (visible q) (beyond order after q) w).0 in
-          subst (LeastBeyond order c.from slots) (sym c.next ∙ e) (least_is_least order total c.from slots) m.0 q m.1 (is_beyond c.from q (c.ahead q w)))
+    here : beyond order c.from key ≡ true
+    here = tests_beyond order total c.from key come_to.1
 
-      pub cursor_end : length slots ≤ steps → Least order Wanted None
-      cursor_end past q = never_true (Wanted q) (λ w.
-          let m = carried q (and_parts (visible q) (beyond order after q) w).0 in
-          let one = counted order c.from slots m.0 q m.1 (c.ahead q w) in
-          let f = c.few in
-          omega arith)
+    module _ (carried : Carried slots visible) where
+      -- no wanted key is less than the one that the walk has come to
+      none_less : (q : K) → wanted order visible after q ≡ true → order q key ≡ Less → ⊥
+      none_less q w l = let m = carried q (and_parts (visible q) (beyond order after q) w).0 in come_to.2 m.0 q m.1 (is_beyond order total c.from q (c.ahead q w)) l
+
+      pub cursor_found : visible key ≡ true → Least order (wanted order visible after) (Some key)
+      cursor_found on = (rw (on, c.within key here), λ q w. lt_false (order q key) (none_less q w))
+
+      pub cursor_next : visible key ≡ false → Cursor order slots visible after (least order (Some key) slots)
+      cursor_next off = record {
+        from = Some key;
+        next = refl;
+        within = λ q on. further_on order total after key q (c.within key here) (lt_true (order key q) on);
+        ahead = λ q w. ⊎_elim
+            (λ l. ap is_lt l)
+            (⊎_elim
+            (λ e. let same : key ≡ q = total.same key q e in absurd (both_ways (visible key) off (subst (λ (x : K). visible x ≡ true) (sym same) (and_parts (visible q) (beyond order after q) w).0)))
+            (λ g. absurd (none_less q w (total.back key q g))))
+            (one_of (order key q));
+      }
+
+  pub cursor_none : {at : Option (K × ℕ)} → Cursor order slots visible after at → Carried slots visible → at ≡ None → Least order (wanted order visible after) None
+  cursor_none c carried e q = never_true (wanted order visible after q) (λ w.
+      let m = carried q (and_parts (visible q) (beyond order after q) w).0 in
+      subst (LeastBeyond order c.from slots) (sym c.next ∙ e) (least_is_least order total c.from slots) m.0 q m.1 (is_beyond order total c.from q (c.ahead q w)))

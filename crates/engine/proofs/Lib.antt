@@ -1,8 +1,6 @@
 pub mod Agreeing
-pub mod Ages
 pub mod Cursor
 pub mod Drafting
-pub mod Folds
 pub mod KeysKept
 pub mod Marking
 pub mod Opened

@@ -9,31 +9,17 @@ use Rattle.ledger.specs.Places.{carries, free, is_key, is_seen_at, key_of}
 use Rattle.ledger.specs.Words.{any, same}
 use Rattle.ledger.specs.declared.place.Place.{Place}
 use Rattle.ledger.specs.declared.place.PlaceState.{PlaceState}
-use Rattle.std.proofs.lemmas.List.{get_or-set_other, get_or-set_same, length-set, take_more}
+use Rattle.std.proofs.lemmas.List.{get_or-replicate, get_or-set_other, get_or-set_same, length-set, take_more}
 use Rattle.std.proofs.lemmas.Bool.{and_parts, both_ways, or_cases}
+use Rattle.std.proofs.Math.Bool.{or-false, or-true, or_assoc}
 use Rattle.std.specs.Ordering.{is_eq}
+use lib.ListN.{length-replicate}
 use Rattle.table.specs.Reads.{is_seen_of, is_visible}
 use Rattle.table.specs.Views.{at}
 
-or_false : (b : Bool) → b ≡ (b || false)
-or_false true = refl
-or_false false = refl
-
-or_true : (b : Bool) → true ≡ (b || true)
-or_true true = refl
-or_true false = refl
-
 any_push : {X : Type 0} (test : X → Bool) (xs : List X) (x : X) → any test (xs ++ x ∷ []) ≡ (any test xs || test x)
-any_push test [] x = go (test x)
-  where
-    go : (b : Bool) → (b || false) ≡ b
-    go true = refl
-    go false = refl
-any_push test (y ∷ ys) x = go (test y) (any_push test ys x)
-  where
-    go : (b : Bool) → any test (ys ++ x ∷ []) ≡ (any test ys || test x) → (b || any test (ys ++ x ∷ [])) ≡ ((b || any test ys) || test x)
-    go true e = refl
-    go false e = e
+any_push test [] x = or-false (test x)
+any_push test (y ∷ ys) x = rw (any_push test ys x) (sym (or_assoc (test y) (any test ys) (test x)))
 
 pub kept_length : (number : Option ℕ) (marks : List Bool) → length (marked number marks) ≡ length marks
 kept_length None marks = refl
@@ -50,26 +36,26 @@ module _ {K : Type 0} (order : K → K → Ordering) (total : Total order) (slot
   -- what one mark does for a key with its number
   one_mark : (o : Option K) → IfSome o (λ _. Apart slots) → (marks : List Bool) (m : ℕ) (key : K) → Maps slots m key → m < length marks →
       get_or (marked (number_at order slots o) marks) m false ≡ (get_or marks m false || is_key order key o)
-  one_mark None apart marks m key e below = or_false (get_or marks m false)
+  one_mark None apart marks m key e below = sym (or-false (get_or marks m false))
   one_mark (Some k) apart marks m key e below = go (order k key) refl
     where
       other : (k ≡ key → ⊥) → (number : Option ℕ) → number ≡ number_of order slots k → get_or (marked number marks) m false ≡ (get_or marks m false || false)
-      other ne None f = or_false (get_or marks m false)
+      other ne None f = sym (or-false (get_or marks m false))
       other ne (Some j) f =
-          get_or-set_other marks j m true false (λ x. ne (one_key slots m k key (subst (λ (i : ℕ). Maps slots i k) (sym x) (number_maps order total slots k j f)) e)) ∙ or_false (get_or marks m false)
+          get_or-set_other marks j m true false (λ x. ne (one_key slots m k key (subst (λ (i : ℕ). Maps slots i k) (sym x) (number_maps order total slots k j f)) e)) ∙ sym (or-false (get_or marks m false))
 
       this : k ≡ key → get_or (marked (number_of order slots k) marks) m false ≡ (get_or marks m false || true)
       this x =
           ap (λ number. get_or (marked number marks) m false) (sym (number_hit order total slots m k apart (subst (Maps slots m) (sym x) e)))
-          ∙ (get_or-set_same marks m true false below ∙ or_true (get_or marks m false))
+          ∙ (get_or-set_same marks m true false below ∙ sym (or-true (get_or marks m false)))
 
       differ : (o : Ordering) → order k key ≡ o → (o ≡ Equal → ⊥) → k ≡ key → ⊥
       differ o e never x = never (sym e ∙ subst (λ (y : K). order k y ≡ Equal) x (total.itself k))
 
       go : (o : Ordering) → order k key ≡ o → get_or (marked (number_of order slots k) marks) m false ≡ (get_or marks m false || same order k key)
       go Equal q = rw q (this (total.same k key q))
-      go Less q = rw q (other (differ Less q (λ x. let z : ◌≡◌ {A = ℕ} 0 1 = cc in omega arith)) (number_of order slots k) refl)
-      go Greater q = rw q (other (differ Greater q (λ x. let z : ◌≡◌ {A = ℕ} 0 1 = cc in omega arith)) (number_of order slots k) refl)
+      go Less q = rw q (other (differ Less q (λ x. cc)) (number_of order slots k) refl)
+      go Greater q = rw q (other (differ Greater q (λ x. cc)) (number_of order slots k) refl)
 
   pub marks_more : (stamp : ℕ) (places : List (Place K)) (n : ℕ) (p : Place K) (marks : List Bool) → n < length places → p ≡ get_or places n p → IfSome (seen_key stamp p.state) (λ _. Apart slots) →
       Marks order slots (take n places) stamp marks → Marks order slots (take (n + 1) places) stamp (marked (number_at order slots (seen_key stamp p.state)) marks)
@@ -83,12 +69,7 @@ module _ {K : Type 0} (order : K → K → Ordering) (total : Total order) (slot
       ∙ ap (any test) (ap (λ q. take n places ++ q ∷ []) read ∙ sym (take_more places n p below)))))
 
   pub marks_none : (stamp size : ℕ) → Marks order slots [] stamp (replicate size false)
-  marks_none stamp size m key e within = all_false size m
-    where
-      all_false : (k i : ℕ) → get_or (replicate k false) i false ≡ false
-      all_false zero i = refl
-      all_false (suc k) zero = refl
-      all_false (suc k) (suc i) = all_false k i
+  marks_none stamp size m key e within = get_or-replicate size m false false (let l = length-replicate size false in omega arith)
 
 any_some : {X : Type 0} (test : X → Bool) (d : X) (xs : List X) → any test xs ≡ true → (n : ℕ) × (test (get_or xs n d) ≡ true)
 any_some test d [] e = absurd (both_ways false refl e)

@@ -3,21 +3,15 @@
 use Rattle.std.specs.Prelude.{ℕ, Bool, not, ◌&&◌, List, [], ◌∷◌, length, Some, None, Ok, Err, Option, Result, ◌==◌, nat_le}
 use Rattle.engine.specs.declared.refusal.OpenError.{OpenError}
 use Rattle.engine.specs.declared.refusal.OpenError.TheVariants.{Refused, NoMemory}
-use Rattle.engine.specs.declared.refusal.OpenRefusal.{OpenRefusal}
-use Rattle.engine.specs.declared.refusal.OpenRefusal.TheVariants.{OutOfRange, UnfitIndex}
 use Rattle.engine.specs.declared.store.Store.{Store}
+use Rattle.engine.specs.Limits.{last_store, max_places}
+use Rattle.engine.specs.Refusals.{open_code}
 use Rattle.index.specs.Slots.{count_of}
+use Rattle.index.specs.declared.index.Index as index
+use Rattle.keys.specs.declared.key.Key as key
 use Rattle.keys.specs.Refusals.{Code, plain}
 use Rattle.ledger.specs.Limits.{last_stamp, last_ticket}
 use Rattle.ledger.specs.Words.{when}
-
--- the last store number
-abbrev pub last_store : ℕ
-last_store = 65535
-
--- the most places that a store can have
-abbrev pub max_places : ℕ
-max_places = 512
 
 -- is each number in its range: store number, count of places, first stamp, first ticket?
 abbrev pub in_ranges : ℕ → ℕ → ℕ → ℕ → Bool
@@ -33,20 +27,15 @@ abbrev pub open_checks : {K : Type 0} → List (Option K) → ℕ → ℕ → �
 open_checks slots store places stamp ticket =
     when (not (in_ranges store places stamp ticket)) (plain 1) ∷ when (not (is_fit slots places)) (plain 2) ∷ []
 
--- the number of an opening's refusal
-abbrev pub open_code : OpenRefusal → Code
-open_code OutOfRange = plain 1
-open_code UnfitIndex = plain 2
-
-module _ {I K : Type 0} where
+module _ {I K : Type 0} {i : index.Ghosts I K} {k : key.Ghosts K} where
   -- the refusal that an opening answers; want of memory is none
-  abbrev pub refusal_of : Result (Store I K) (OpenError I) → Option Code
+  abbrev pub refusal_of : Result (Store I K i k) (OpenError I) → Option Code
   refusal_of (Ok s) = None
-  refusal_of (Err (Refused why index)) = Some (open_code why)
-  refusal_of (Err (NoMemory index)) = None
+  refusal_of (Err (Refused why given)) = Some (open_code why)
+  refusal_of (Err (NoMemory given)) = None
 
   -- the index of the store that was opened, or the one that was given back
-  abbrev pub index_of : Result (Store I K) (OpenError I) → I
+  abbrev pub index_of : Result (Store I K i k) (OpenError I) → I
   index_of (Ok s) = s.index
-  index_of (Err (Refused why index)) = index
-  index_of (Err (NoMemory index)) = index
+  index_of (Err (Refused why given)) = given
+  index_of (Err (NoMemory given)) = given

@@ -1,5 +1,5 @@
 // The place of a job's draft at a key: the one that it has, or a new one, for which ageing makes room.
-ghost use Rattle.engine.specs.Agreement.{Keeps, Unchanged};
+ghost use Rattle.engine.specs.Calls.{Unchanged};
 ghost use Rattle.keys.specs.Refusals.{plain, told};
 ghost use Rattle.ledger.specs.Refusals.{code};
 ghost use Rattle.ledger.specs.Steps.{all_wanted};
@@ -12,6 +12,7 @@ ghost use Rattle.table.specs.Holds.{draft_at, entry_at};
 ghost use Rattle.table.specs.Rows.{is_row_full};
 ghost use Rattle.table.specs.Views.{view, with_places};
 
+use crate::age::age_places;
 use crate::store::Store;
 use index::Index;
 use ledger::Refusal;
@@ -21,24 +22,25 @@ impl<I: Index> Store<I> {
     // A free place; where there is none, all superseded versions are aged first.
     fn free_place(&mut self) -> Result<usize, Refusal>
         ensures answer { Outcome (when (all_wanted (view self.old.table).reports (view self.old.table).places) (plain 10) ∷ []) (λ n. Room (view self.old.table) n × (view self.new.table ≡ with_places (view self.old.table) (ready (view self.old.table)))) (Unchanged self.old self.new) (told code result) }
-        ensures index { Keeps I.Index.sound I.Index.slots self.old self.new }
     {
         if let Some(n) = find_free(&self.table.places) {
             return Ok(n);
         }
-        match find_unwanted(&self.table.places, &self.table.reports.items) {
-            Some(n) => {
-                self.age_places(None);
-                Ok(n)
-            }
-            None => Err(Refusal::StoreFull),
-        }
+        let Some(n) = find_unwanted(&self.table.places, &self.table.reports.items) else {
+            return Err(Refusal::StoreFull);
+        };
+        age_places(
+            &mut self.index,
+            &mut self.table.places,
+            &self.table.reports.items,
+            None,
+        );
+        Ok(n)
     }
 
     // The place of the draft at the key of the row's job. A new one is noted in the row.
     pub(crate) fn draft_place(&mut self, row: Row, key: I::Key) -> Result<usize, Refusal>
         ensures answer { Outcome (when (not (is_some (entry_at I.Key.Key.order (view self.old.table).places key row)) && is_row_full row) (plain 9) ∷ when (not (is_some (draft_at I.Key.Key.order (view self.old.table).places key row)) && all_wanted (view self.old.table).reports (view self.old.table).places) (plain 10) ∷ []) (Placed I.Key.Key.order (view self.old.table) (view self.new.table) row key) (Unchanged self.old self.new) (told code result) }
-        ensures index { Keeps I.Index.sound I.Index.slots self.old self.new }
     {
         if let Some(n) = row.draft_for(&self.table.places, key) {
             return Ok(n);

@@ -12,7 +12,8 @@ mod refusal;
 mod store;
 mod turn;
 mod walk;
+mod write;
 
-pub use open::MAX_PLACES;
+pub use open::{MAX_PLACES, Opening};
 pub use refusal::{OpenError, OpenRefusal};
 pub use store::Store;

@@ -1,34 +1,31 @@
 // Walking the keys that a report sees, in their order. This alone needs an ordered index.
 // The places are gone through once, to mark the numbers of the keys that the report sees; then the index gives key
 // after key, and the first with a mark is the answer.
-ghost use Rattle.engine.specs.Agreement.{Indexed};
 ghost use Rattle.engine.specs.Walking.{Marks, marked, number_at, seen_key};
 ghost use Rattle.index.specs.Ordered.{least};
-ghost use Rattle.index.specs.Slots.{Apart, Maps};
+ghost use Rattle.index.specs.Slots.{Apart};
 ghost use Rattle.keys.specs.Refusals.{told};
 ghost use Rattle.ledger.specs.Laws.{Least};
 ghost use Rattle.ledger.specs.Refusals.{code};
 ghost use Rattle.ledger.specs.Words.{beyond};
-ghost use Rattle.std.specs.Prelude.{◌≡◌, ◌&&◌, OnSome};
+ghost use Rattle.std.specs.Prelude.{◌≡◌, ℕ, ◌&&◌, OnSome};
 ghost use Rattle.table.specs.Checks.{Outcome};
 ghost use Rattle.table.specs.Reads.{Walks, is_visible, walk_checks};
 ghost use Rattle.table.specs.Views.{view};
 
 use crate::open::MAX_PLACES;
 use crate::store::Store;
+use crate::write::write;
 use index::{Index, OrderedIndex};
 use keys::Key;
 use ledger::{Place, Refusal, TicketId};
-use table::find_seen;
 
 // Marks the number, if one is given.
 fn mark(marks: &mut [bool], number: Option<usize>)
     ensures after { marks.new ≡ marked number marks.old }
 {
     if let Some(m) = number {
-        if m < marks.len() {
-            marks[m] = true;
-        }
+        write(marks, m, true);
     }
 }
 
@@ -45,19 +42,17 @@ fn seen_key<K: Key>(place: Place<K>, stamp: u32) -> Option<K>
 
 // The number of the key, if there is a key.
 fn number_of<I: Index>(index: &I, key: Option<I::Key>) -> Option<usize>
-    ensures answer { I.Index.sound index.now → result ≡ number_at I.Key.Key.order (I.Index.slots index.now) key }
-    ensures apart { OnSome key (I.Index.sound index.now → Apart (I.Index.slots index.now)) }
+    ensures answer { result ≡ number_at I.Key.Key.order (I.Index.slots index.now) key }
+    ensures apart { OnSome key (Apart (I.Index.slots index.now)) }
 {
-    match key {
-        Some(key) => index.find(key),
-        None => None,
-    }
+    index.find(key?)
 }
 
 // For each number whether a report with the stamp sees a version of its key.
 fn mark_seen<I: Index>(index: &I, places: &[Place<I::Key>], stamp: u32) -> [bool; MAX_PLACES]
-    ensures answer { I.Index.sound index.now → Marks I.Key.Key.order (I.Index.slots index.now) places.now stamp result }
+    ensures answer { Marks I.Key.Key.order (I.Index.slots index.now) places.now stamp result }
 {
+    // an array, since nothing is allocated after opening
     let mut marks = [false; MAX_PLACES];
     for place in places {
         let key = seen_key(*place, stamp);
@@ -68,53 +63,33 @@ fn mark_seen<I: Index>(index: &I, places: &[Place<I::Key>], stamp: u32) -> [bool
 }
 
 impl<I: OrderedIndex> Store<I> {
-    // Whether a report with the stamp sees a version of the key, which has the number. No number of a store's own
-    // places lies past the marks; were there one, the places would be searched.
-    fn is_marked(&self, marks: &[bool], number: usize, stamp: u32, key: I::Key) -> bool
-        ensures answer { Marks I.Key.Key.order (I.Index.slots self.now.index) (view self.now.table).places stamp marks.now → Maps (I.Index.slots self.now.index) number key → result ≡ is_visible I.Key.Key.order (view self.now.table).places stamp key }
-    {
-        if number < marks.len() {
-            marks[number]
-        } else {
-            find_seen(&self.table.places, stamp, key).is_some()
-        }
-    }
-
     // The first key of the index with its number, of those greater than the given one if one is given.
     fn key_after(&self, after: Option<I::Key>) -> Option<(I::Key, usize)>
-        ensures answer { I.Index.sound self.now.index → result ≡ least I.Key.Key.order after (I.Index.slots self.now.index) }
+        ensures answer { result ≡ least I.Key.Key.order after (I.Index.slots self.now.index) }
     {
-        match after {
-            Some(key) => self.index.next(key),
-            None => self.index.first(),
-        }
+        after.map_or_else(|| self.index.first(), |key| self.index.next(key))
     }
 
-    // The least key, greater than the given one, whose number is marked.
-    fn next_marked(&self, marks: &[bool], stamp: u32, after: Option<I::Key>) -> Option<I::Key>
-        ensures answer { Indexed I.Index.sound I.Index.slots self.now → Marks I.Key.Key.order (I.Index.slots self.now.index) (view self.now.table).places stamp marks.now → Least I.Key.Key.order (λ key. is_visible I.Key.Key.order (view self.now.table).places stamp key && beyond I.Key.Key.order after key) result }
+    // The least key, greater than the given one if one is given, whose number is marked.
+    fn next_marked(&self, marks: &[bool; MAX_PLACES], after: Option<I::Key>) -> Option<I::Key>
+        ensures answer { (stamp : ℕ) → Marks I.Key.Key.order (I.Index.slots self.now.index) (view self.now.table).places stamp marks.now → Least I.Key.Key.order (λ key. is_visible I.Key.Key.order (view self.now.table).places stamp key && beyond I.Key.Key.order after key) result }
     {
         let mut at = self.key_after(after);
-        for _step in 0..self.index.capacity() {
-            let Some(pair) = at else {
-                return None;
-            };
-            let (key, number) = pair;
-            if self.is_marked(marks, number, stamp, key) {
+        loop {
+            let (key, number) = at?;
+            if marks[number] {
                 return Some(key);
             }
             at = self.index.next(key);
         }
-        None
     }
 
     // The least key, greater than the given one if one is given, at which the report sees a record.
     pub fn walk(&self, report: TicketId, after: Option<I::Key>) -> Result<Option<I::Key>, Refusal>
-        ensures answer { Indexed I.Index.sound I.Index.slots self.now → Outcome (walk_checks (view self.now.table) report) (Walks I.Key.Key.order (view self.now.table) report after) (Unit {0}) (told code result) }
-        ensures refused { Outcome (walk_checks (view self.now.table) report) (λ _. Unit {0}) (Unit {0}) (told code result) }
+        ensures answer { Outcome (walk_checks (view self.now.table) report) (Walks I.Key.Key.order (view self.now.table) report after) (Unit {0}) (told code result) }
     {
         let open = self.table.report(report)?;
         let marks = mark_seen(&self.index, &self.table.places, open.stamp);
-        Ok(self.next_marked(&marks, open.stamp, after))
+        Ok(self.next_marked(&marks, after))
     }
 }

@@ -1,9 +1,9 @@
 use Rattle.std.proofs.Common.{◌≡◌, length, take}
 use Rattle.engine.specs.Walking.{Marks}
-use Rattle.engine.specs.Opening.{max_places}
+use Rattle.engine.specs.Limits.{max_places}
 use Rattle.engine.proofs.walk.mark_seen.Given as goal
 
 abbrev pub invariant-loop-place : goal.invariant-loop-place
 invariant-loop-place g l =
     (length l.marks ≡ max_places)
-    × (g.I.Index.sound l.index → Marks g.I.Key.Key.order (g.I.Index.slots l.index) (take l.place-index l.places) l.stamp l.marks)
+    × Marks g.I.Key.Key.order (g.I.Index.slots l.index) (take l.place-index l.places) l.stamp l.marks

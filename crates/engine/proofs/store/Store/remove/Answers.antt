@@ -1,26 +1,8 @@
-use Rattle.std.proofs.Common.{◌≡◌, Some, None}
-use Rattle.std.proofs.lemmas.Result.{err_from_is_err_and}
+use Rattle.std.proofs.Common.{◌≡◌, Some}
 use Rattle.table.proofs.Checking.{found_some, job_is_open, passed, passes}
 use Rattle.table.specs.Views.{open_job, view}
 use Rattle.engine.proofs.Drafting.{same_placed, same_room, same_there}
 use Rattle.engine.proofs.store.Store.remove.Goals as goal
-
-pub returns-in_err-n : goal.returns-in_err-n
-returns-in_err-n g c =
-    let v = view c.args.self.now.table in
-    let found : open_job (view c.args.self.now.table) c.args.job ≡ Some c.in_ok-row.row = found_some _ _ _ c.in_ok-row.ensures.answer in
-    let p = err_from_is_err_and c.from_residual-in_err-n.result c.from_residual-in_err-n.ensures.1 in
-    let out = c.in_err-n.ensures.answer in
-    rw (p.1, p.2) (record {
-      answer = (
-        passes (job_is_open v c.args.job c.in_ok-row.row found)
-            (passes (passed _ _ _ c.in_ok-check_holder.ensures.answer)
-            (passes (same_there g.I.Key.Key.order v c.args.job c.args.key c.in_ok-row.row found None (passed _ _ _ c.in_ok-check_there.ensures.answer))
-            (same_room g.I.Key.Key.order v c.args.job c.args.key c.in_ok-row.row found _ out.0))),
-        out.1,
-      );
-      index = c.draft_place.ensures.index;
-    })
 
 pub returns : goal.returns
 returns g c =
@@ -31,8 +13,8 @@ returns g c =
       answer = (
         passes (job_is_open v c.args.job c.in_ok-row.row found)
             (passes (passed _ _ _ c.in_ok-check_holder.ensures.answer)
-            (passes (same_there g.I.Key.Key.order v c.args.job c.args.key c.in_ok-row.row found None (passed _ _ _ c.in_ok-check_there.ensures.answer))
-            (same_room g.I.Key.Key.order v c.args.job c.args.key c.in_ok-row.row found None out.0))),
+            (passes (same_there g.I.Key.Key.order v c.args.job c.args.key c.in_ok-row.row found (passed _ _ _ c.in_ok-check_there.ensures.answer))
+            (same_room g.I.Key.Key.order v c.args.job c.args.key c.in_ok-row.row found out.0))),
         (
           c.in_ok-n.n,
           (
@@ -42,5 +24,4 @@ returns g c =
           ),
         ),
       );
-      index = λ a. c.turn_listed.ensures.index (c.draft_place.ensures.index a);
     }

@@ -1,5 +1,4 @@
 use Rattle.std.proofs.Common.{◌≡◌, ◌&&◌, Some, Option, unwrap_or, sym, ap, subst}
-use Rattle.engine.specs.Walking.{Marks}
 use Rattle.ledger.specs.Laws.{Least}
 use Rattle.ledger.specs.Words.{beyond}
 use Rattle.ledger.specs.declared.place.Report.{Report}
@@ -12,14 +11,13 @@ use Rattle.engine.proofs.store.Store.walk.Goals as goal
 pub returns : goal.returns
 returns g c =
     let open_is : open_report (view c.args.self.now.table) c.args.report ≡ Some c.in_ok-open.open = found_some _ _ _ c.in_ok-open.ensures.answer in
+    let v = view c.args.self.now.table in
+    let order = g.I.Key.Key.order in
+    let stamp : sight (view c.args.self.now.table) c.args.report ≡ c.in_ok-open.open.stamp = ap (λ (o : Option Report). unwrap_or (option_map (λ r. r.stamp) o) 0) open_is in
+    let marks = rw c.deref.ensures.value at c.mark_seen-marks.ensures.answer in
     record {
-      answer = λ a.
-          let v = view c.args.self.now.table in
-          let order = g.I.Key.Key.order in
-          let stamp : sight (view c.args.self.now.table) c.args.report ≡ c.in_ok-open.open.stamp = ap (λ (o : Option Report). unwrap_or (option_map (λ r. r.stamp) o) 0) open_is in
-          let marks = subst (λ ps. Marks order (g.I.Index.slots c.args.self.now.index) ps c.in_ok-open.open.stamp c.mark_seen-marks.result) c.deref.ensures.value (c.mark_seen-marks.ensures.answer a.0) in (
-            rw open_is,
-            subst (λ s. Least order (λ key. is_visible order v.places s key && beyond order c.args.after key) c.next_marked.result) (sym stamp) (c.next_marked.ensures.answer a marks),
-          );
-      refused = (rw open_is, tt);
+      answer = (
+        rw open_is,
+        subst (λ s. Least order (λ key. is_visible order v.places s key && beyond order c.args.after key) c.next_marked.result) (sym stamp) (c.next_marked.ensures.answer c.in_ok-open.open.stamp marks),
+      );
     }
