@@ -1,23 +1,29 @@
 -- A refused call changes nothing, from what the engine promises of each call.
-use Rattle.std.proofs.Common.{◌≡◌, List, Some, None, Ok, Err, Option, Result, sym, refl, ap, ◌∙◌, subst}
+use Rattle.std.proofs.Common.{◌≡◌, OnErr, List, Ok, Err, Option, Result, sym, refl, ap, ◌∙◌, subst}
+use Rattle.keys.specs.declared.key.Key as Key
+use Rattle.index.specs.declared.index.Index as Index
 use Rattle.keys.specs.Refusals.{Code, told}
-use Rattle.ledger.specs.declared.answer.Answer.{Answer}
+use Rattle.ledger.specs.declared.answer.Granted.{Granted}
 use Rattle.ledger.specs.declared.answer.Refusal.{Refusal}
 use Rattle.ledger.specs.Refusals.{code}
-use Rattle.ledger.specs.Calls.{refusal}
+use Rattle.ledger.specs.Calls.{Answer}
 use Rattle.table.specs.Views.{View, view, if_granted}
 use Rattle.table.specs.Checks.{Outcome}
 use Rattle.engine.specs.declared.store.Store.{Store}
-use Rattle.engine.specs.Agreement.{Unchanged}
+use Rattle.engine.specs.Calls.{Unchanged}
 use Rattle.bridge.specs.Answers.{answer_of}
-use Rattle.bridge.proofs.Apart.{differ}
 use Rattle.store.specs.Law.{RefusedLeavesAll}
 
-module _ {A I K R : Type 0} (says : A → Answer K R) (granted : (x : A) → refusal (says x) ≡ None) (s s' : Store I K) (a : Answer K R) (handed left : List R) where
+-- where something holds, it holds where the result is a refusal
+pub on_err : {A E P : Type 0} (r : Result A E) → P → OnErr r P
+on_err (Ok x) p = tt
+on_err (Err why) p = p
+
+module _ {A I K R : Type 0} {i : Index.Ghosts I K} {k : Key.Ghosts K} (says : A → Granted K R) (s s' : Store I K i k) (a : Answer K R) (handed left : List R) where
   -- only a result that is a refusal is answered as one
   pub leaves_all : (r : Result A Refusal) → a ≡ answer_of says r → ((why : Refusal) → r ≡ Err why → Unchanged s s' × (left ≡ handed)) → RefusedLeavesAll a s s' handed left
-  leaves_all (Ok x) ea h why e = let z : ◌≡◌ {A = Option Code} None (Some why) = sym (granted x) ∙ (ap refusal (sym ea) ∙ e) in differ cc
-  leaves_all (Err y) ea h why e = h y refl
+  leaves_all (Ok x) ea h = subst (λ b. RefusedLeavesAll b s s' handed left) (sym ea) tt
+  leaves_all (Err why) ea h = subst (λ b. RefusedLeavesAll b s s' handed left) (sym ea) (h why refl)
 
   -- a call that leaves the index alone, and the table as it was where it is refused
   pub table_leaves : (r : Result A Refusal) (w : View K) → a ≡ answer_of says r → view s'.table ≡ if_granted r w (view s.table) → ((why : Refusal) → r ≡ Err why → s'.index ≡ s.index) → left ≡ handed → RefusedLeavesAll a s s' handed left

@@ -3,10 +3,10 @@
 ghost use Rattle.store.specs.Law.{LeadsOn, LeftAlone, RefusedLeavesAll};
 ghost use Rattle.ledger.specs.declared.call.Call.TheVariants.{Basic};
 
-use crate::answers::{committed, done, found, job_begun, report_begun};
 use engine::Store;
 use index::Index;
-use ledger::{Answer, BasicCall};
+use ledger::{Answer, BasicCall, Granted};
+use table::Aged;
 
 // Any call but a walk, on a store over any index.
 pub fn ask<I: Index, R: Copy>(
@@ -14,26 +14,41 @@ pub fn ask<I: Index, R: Copy>(
     shelf: &mut [R],
     call: BasicCall<I::Key, R>,
 ) -> Answer<I::Key, R>
-    ensures law { LeadsOn I.Key.Key.order I.Index.sound I.Index.slots (Basic call) result store.old store.new shelf.old shelf.new }
+    ensures law { LeadsOn (Basic call) result store.old store.new shelf.old shelf.new }
     ensures unchanged { RefusedLeavesAll result store.old store.new shelf.old shelf.new }
     ensures astray { LeftAlone store.old shelf.old shelf.new }
 {
     match call {
-        BasicCall::BeginReport => report_begun(store.begin_report()),
-        BasicCall::BeginJob => job_begun(store.begin_job()),
-        BasicCall::Read { report, key } => found(store.read(shelf, report, key)),
-        BasicCall::Look { job, key } => found(store.look(shelf, job, key)),
-        BasicCall::Put { job, key, item } => done(store.put(shelf, job, key, item)),
-        BasicCall::Remove { job, key } => done(store.remove(job, key)),
-        BasicCall::Commit { job } => committed(store.commit(job)),
-        BasicCall::Abort { job } => done(store.abort(job)),
-        BasicCall::End { report } => done(store.end(report)),
+        BasicCall::BeginReport => {
+            let (ticket, stamp) = store.begin_report()?;
+            Ok(Granted::Report { ticket, stamp })
+        }
+        BasicCall::BeginJob => {
+            let ticket = store.begin_job()?;
+            Ok(Granted::Job { ticket })
+        }
+        BasicCall::Read { report, key } => Ok(Granted::Record(store.read(shelf, report, key)?)),
+        BasicCall::Look { job, key } => Ok(Granted::Record(store.look(shelf, job, key)?)),
+        BasicCall::Put { job, key, item } => {
+            store.put(shelf, job, key, item)?;
+            Ok(Granted::Done)
+        }
+        BasicCall::Remove { job, key } => {
+            store.remove(job, key)?;
+            Ok(Granted::Done)
+        }
+        BasicCall::Commit { job } => Ok(Granted::Stamp(store.commit(job)?)),
+        BasicCall::Abort { job } => {
+            store.abort(job)?;
+            Ok(Granted::Done)
+        }
+        BasicCall::End { report } => {
+            store.end(report)?;
+            Ok(Granted::Done)
+        }
         BasicCall::Age { limit } => {
-            let counts = store.age(limit);
-            Answer::Aged {
-                looked: counts.looked,
-                freed: counts.freed,
-            }
+            let Aged { looked, freed } = store.age(limit);
+            Ok(Granted::Aged { looked, freed })
         }
     }
 }

@@ -2,7 +2,6 @@
 // Stands on the engine, which is held to the table, and on the bridge from the table to the ledger.
 #![tactic(auto)]
 
-mod answers;
 mod asking;
 mod example;
 mod opening;
@@ -12,9 +11,9 @@ mod tickets;
 mod typed;
 
 pub use asking::ask;
-pub use example::{commit_twice, visit};
+pub use example::{Failed, commit_twice, visit};
 pub use opening::open;
 pub use ordered::ask_ordered;
 pub use running::run_calls;
-pub use tickets::{JobTicket, ReportTicket};
+pub use tickets::{GivenBack, JobTicket, OfJob, OfReport, ReportTicket, Ticket};
 pub use typed::{abort_job, begin_job, begin_report, commit_job, end_report};

@@ -5,55 +5,73 @@
 mod run;
 mod script;
 mod tally;
-mod told;
 
 use anyhow::anyhow;
 use bucket_index::BucketIndex;
+use engine::Opening;
 use index::Index;
 use keys::CodeKey;
+use ledger::Answer;
 use run::{Ageing, answers, row_answers};
 use script::{STORE, Script};
 use std::io;
 use store::open;
 use tally::Tally;
-use told::Told;
 use tree_index::{Node, SearchTree};
 
 // The most places of a store here.
 const PLACES: usize = 40;
 
-// What a pair of stores is opened with, and the list of calls that they get.
+// What a pair of stores is asked.
+#[derive(Clone, Copy)]
+enum Asked {
+    // so many pseudo-random calls about so many keys
+    Drawn { calls: u32, keys: u16 },
+    // the puts of one job, one more than its row has entries
+    Row,
+}
+
+// What a pair of stores is opened with, and what it is asked.
 #[derive(Clone, Copy)]
 struct Setting {
-    places: usize,
-    stamp: u32,
-    ticket: u32,
-    keys: u16,
-    calls: u32,
+    opening: Opening,
+    asked: Asked,
 }
 
 // A store that is often full; one whose stamps and tickets are used up; and a new one, in which a job's row fills up.
 const SETTINGS: [Setting; 3] = [
     Setting {
-        places: 12,
-        stamp: 0,
-        ticket: 1,
-        keys: 6,
-        calls: 1_000,
+        opening: Opening {
+            store: STORE as u32,
+            places: 12,
+            first_stamp: 0,
+            first_ticket: 1,
+        },
+        asked: Asked::Drawn {
+            calls: 1_000,
+            keys: 6,
+        },
     },
     Setting {
-        places: 30,
-        stamp: 3_999_999_980,
-        ticket: 3_999_999_900,
-        keys: 5,
-        calls: 1_000,
+        opening: Opening {
+            store: STORE as u32,
+            places: 30,
+            first_stamp: 3_999_999_980,
+            first_ticket: 3_999_999_900,
+        },
+        asked: Asked::Drawn {
+            calls: 1_000,
+            keys: 5,
+        },
     },
     Setting {
-        places: PLACES,
-        stamp: 5,
-        ticket: 9,
-        keys: 1,
-        calls: 0,
+        opening: Opening {
+            store: STORE as u32,
+            places: PLACES,
+            first_stamp: 5,
+            first_ticket: 9,
+        },
+        asked: Asked::Row,
     },
 ];
 
@@ -63,33 +81,29 @@ fn answers_over<I: Index<Key = CodeKey> + Drop>(
     index: I,
     setting: Setting,
     ageing: Ageing,
-) -> anyhow::Result<Vec<Told>> {
+) -> anyhow::Result<Vec<Answer<CodeKey, u32>>> {
     let mut records = [0; PLACES];
-    let places = setting.places.min(PLACES);
-    let shelf = &mut records[0..places];
-    let opened = open::<I, u32>(
-        rt.alloc(),
-        STORE as u32,
-        places,
-        setting.stamp,
-        setting.ticket,
-        index,
-    );
-    let Ok(mut store) = opened else {
-        return Err(anyhow!("the store was not opened"));
-    };
-    if setting.calls == 0 {
-        return Ok(row_answers(rt.alloc(), &mut store, shelf)?);
-    }
-    let script = Script::new(setting.keys);
-    Ok(answers(rt.alloc(), &mut store, shelf, script, setting.calls, ageing)?)
+    let shelf = &mut records[..setting.opening.places.min(PLACES)];
+    let opened = open::<I, u32>(rt.alloc(), setting.opening, index);
+    let mut store = opened.map_err(|_| anyhow!("the store was not opened"))?;
+    Ok(match setting.asked {
+        Asked::Drawn { calls, keys } => answers(
+            rt.alloc(),
+            &mut store,
+            shelf,
+            Script::new(keys),
+            calls,
+            ageing,
+        )?,
+        Asked::Row => row_answers(rt.alloc(), &mut store, shelf)?,
+    })
 }
 
 // Both stores through one list, and what they answered.
 fn compare(rt: &HostRuntime, nodes: &mut [Node<CodeKey>], setting: Setting) -> anyhow::Result<()> {
     let seldom = Ageing {
         every: 70,
-        limit: setting.stamp.saturating_add(9),
+        limit: setting.opening.first_stamp.saturating_add(9),
     };
     let often = Ageing {
         every: 3,
@@ -111,8 +125,8 @@ fn compare(rt: &HostRuntime, nodes: &mut [Node<CodeKey>], setting: Setting) -> a
 
 // Every setting, in the same nodes.
 fn compare_all(rt: &HostRuntime, nodes: &mut [Node<CodeKey>]) -> anyhow::Result<()> {
-    for setting in SETTINGS.iter() {
-        compare(rt, nodes, *setting)?;
+    for setting in SETTINGS {
+        compare(rt, nodes, setting)?;
     }
     Ok(())
 }

@@ -1,15 +1,14 @@
 // One store driven through a list of calls, with age calls of its own in between, and its answers listed.
 use crate::script::{Script, put_apart};
-use crate::told::{Told, tell};
 use engine::Store;
 use index::Index;
 use keys::CodeKey;
-use ledger::BasicCall;
+use ledger::{Answer, BasicCall, Granted, ROW_ENTRIES};
 use std::alloc::{AllocError, Global};
 use store::ask;
 
 // Keys that the last job puts, one more than its row has entries.
-const ROW_PUTS: u16 = 33;
+const ROW_PUTS: u16 = ROW_ENTRIES as u16 + 1;
 
 // Every so many calls one is handed a shelf that is a record short.
 const SHORT_SHELF: u32 = 29;
@@ -29,7 +28,7 @@ pub fn answers<I: Index<Key = CodeKey>>(
     mut script: Script,
     calls: u32,
     ageing: Ageing,
-) -> Result<Vec<Told>, AllocError> {
+) -> Result<Vec<Answer<CodeKey, u32>>, AllocError> {
     let mut list = Vec::new(heap);
     for i in 0..calls {
         if i.checked_rem(ageing.every) == Some(0) {
@@ -37,12 +36,12 @@ pub fn answers<I: Index<Key = CodeKey>>(
             let _ = ask(store, shelf, BasicCall::Age { limit });
         }
         let call = script.call();
-        let answer = if i % SHORT_SHELF == 0 && shelf.len() > 0 {
-            let short = shelf.len() - 1;
-            tell(ask(store, &mut shelf[0..short], call))
+        let handed = if i % SHORT_SHELF == 0 {
+            shelf.len().saturating_sub(1)
         } else {
-            tell(ask(store, shelf, call))
+            shelf.len()
         };
+        let answer = ask(store, &mut shelf[..handed], call);
         script.note(call, answer);
         list.push(answer)?;
     }
@@ -54,16 +53,15 @@ pub fn row_answers<I: Index<Key = CodeKey>>(
     heap: Global,
     store: &mut Store<I>,
     shelf: &mut [u32],
-) -> Result<Vec<Told>, AllocError> {
+) -> Result<Vec<Answer<CodeKey, u32>>, AllocError> {
     let mut list = Vec::new(heap);
-    let begun = tell(ask(store, shelf, BasicCall::BeginJob));
+    let begun = ask(store, shelf, BasicCall::BeginJob);
     list.push(begun)?;
-    let job = match begun {
-        Told::Job { ticket } => ticket,
-        _ => 0,
+    let Ok(Granted::Job { ticket }) = begun else {
+        return Ok(list);
     };
     for code in 0..ROW_PUTS {
-        list.push(tell(ask(store, shelf, put_apart(job, code))))?;
+        list.push(ask(store, shelf, put_apart(ticket, code)))?;
     }
     Ok(list)
 }

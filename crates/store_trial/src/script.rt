@@ -1,7 +1,6 @@
 // Lists of calls: pseudo-random ones, which follow the tickets that are given out, and one that fills a job's row.
-use crate::told::Told;
 use keys::CodeKey;
-use ledger::{BasicCall, MAX_JOBS, MAX_REPORTS, TicketId};
+use ledger::{Answer, BasicCall, Granted, MAX_JOBS, MAX_REPORTS, TicketId};
 
 // The number of every store here.
 pub const STORE: u16 = 7;
@@ -9,15 +8,18 @@ pub const STORE: u16 = 7;
 // The unit of every key.
 const UNIT: u16 = 0x7E8;
 
-// What stands where no ticket is open; no ticket has it.
-const NO_TICKET: u32 = 0;
+// What a call names where no ticket is open; no store gives it out.
+const NO_TICKET: TicketId = TicketId {
+    store: STORE,
+    number: 0,
+};
 
 #[derive(Clone, Copy)]
 pub struct Script {
     state: u64,
-    // running numbers of the open reports and jobs, as far as the answers tell
-    reports: [u32; MAX_REPORTS],
-    jobs: [u32; MAX_JOBS],
+    // tickets of the open reports and jobs, as far as the answers tell
+    reports: [Option<TicketId>; MAX_REPORTS],
+    jobs: [Option<TicketId>; MAX_JOBS],
     // how many keys the calls are about
     keys: u16,
 }
@@ -26,8 +28,8 @@ impl Script {
     pub fn new(keys: u16) -> Script {
         Script {
             state: 88_172_645_463_325_252,
-            reports: [NO_TICKET; MAX_REPORTS],
-            jobs: [NO_TICKET; MAX_JOBS],
+            reports: [None; MAX_REPORTS],
+            jobs: [None; MAX_JOBS],
             keys,
         }
     }
@@ -43,13 +45,13 @@ impl Script {
     }
 
     fn report(&mut self) -> TicketId {
-        let slot = (self.draw() % 16) as usize;
-        ticket(self.reports[slot])
+        let slot = self.draw() as usize % MAX_REPORTS;
+        self.reports[slot].unwrap_or(NO_TICKET)
     }
 
     fn job(&mut self) -> TicketId {
-        let slot = (self.draw() % 8) as usize;
-        ticket(self.jobs[slot])
+        let slot = self.draw() as usize % MAX_JOBS;
+        self.jobs[slot].unwrap_or(NO_TICKET)
     }
 
     fn key(&mut self) -> CodeKey {
@@ -84,56 +86,40 @@ impl Script {
     }
 
     // Takes notice of a ticket that was given out or ended.
-    pub fn note(&mut self, call: BasicCall<CodeKey, u32>, told: Told) {
-        match (call, told) {
-            (_, Told::Report { ticket, .. }) => exchange(&mut self.reports, NO_TICKET, ticket),
-            (_, Told::Job { ticket }) => exchange(&mut self.jobs, NO_TICKET, ticket),
-            (BasicCall::Commit { job }, Told::Stamp(_)) => exchange(
-                &mut self.jobs,
-                job.number,
-                NO_TICKET,
-            ),
-            (BasicCall::Abort { job }, Told::Done) => exchange(
-                &mut self.jobs,
-                job.number,
-                NO_TICKET,
-            ),
-            (BasicCall::End { report }, Told::Done) => exchange(
+    pub fn note(&mut self, call: BasicCall<CodeKey, u32>, answer: Answer<CodeKey, u32>) {
+        match (call, answer) {
+            (_, Ok(Granted::Report { ticket, .. })) => exchange(
                 &mut self.reports,
-                report.number,
-                NO_TICKET,
+                None,
+                Some(ticket),
             ),
+            (_, Ok(Granted::Job { ticket })) => exchange(&mut self.jobs, None, Some(ticket)),
+            (BasicCall::Commit { job } | BasicCall::Abort { job }, Ok(_)) => exchange(
+                &mut self.jobs,
+                Some(job),
+                None,
+            ),
+            (BasicCall::End { report }, Ok(_)) => exchange(&mut self.reports, Some(report), None),
             _ => {}
         }
     }
 }
 
-// A ticket of the stores here.
-pub fn ticket(number: u32) -> TicketId {
-    TicketId {
-        store: STORE,
-        number,
-    }
-}
-
 // A put at a key that no other call is about.
-pub fn put_apart(job: u32, code: u16) -> BasicCall<CodeKey, u32> {
+pub fn put_apart(job: TicketId, code: u16) -> BasicCall<CodeKey, u32> {
     BasicCall::Put {
-        job: ticket(job),
+        job,
         key: CodeKey {
             unit: UNIT + 1,
             code,
         },
-        item: code as u32,
+        item: u32::from(code),
     }
 }
 
-// Puts the new number in the place of the first that is the old one.
-fn exchange(numbers: &mut [u32], old: u32, new: u32) {
-    for n in numbers.iter_mut() {
-        if *n == old {
-            *n = new;
-            return;
-        }
+// Puts the new one in the place of the first that is the old one.
+fn exchange(tickets: &mut [Option<TicketId>], old: Option<TicketId>, new: Option<TicketId>) {
+    if let Some(slot) = tickets.iter_mut().find(|t| **t == old) {
+        *slot = new;
     }
 }

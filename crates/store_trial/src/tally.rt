@@ -1,5 +1,9 @@
 // How often each kind of answer came.
-use crate::told::Told;
+use keys::{CodeKey, Reason};
+use ledger::{Answer, Granted};
+
+// The least number of a refusal to a call.
+const FIRST_REFUSAL: usize = 3;
 
 #[derive(Clone, Copy, Debug)]
 pub struct Tally {
@@ -29,21 +33,25 @@ impl Tally {
         }
     }
 
-    pub fn count(&mut self, told: Told) {
-        match told {
-            Told::Report { .. } => add_one(&mut self.reports),
-            Told::Job { .. } => add_one(&mut self.jobs),
-            Told::Record(_) | Told::Key { .. } => add_one(&mut self.records),
-            Told::Nothing => add_one(&mut self.nothing),
-            Told::Done | Told::Aged => add_one(&mut self.done),
-            Told::Stamp(_) => add_one(&mut self.commits),
-            Told::Refused { number, .. } => self.count_refusal(number),
+    pub fn count(&mut self, answer: Answer<CodeKey, u32>) {
+        match answer {
+            Ok(Granted::Report { .. }) => add_one(&mut self.reports),
+            Ok(Granted::Job { .. }) => add_one(&mut self.jobs),
+            Ok(Granted::Record(Some(_)) | Granted::Next(Some(_))) => add_one(&mut self.records),
+            Ok(Granted::Record(None) | Granted::Next(None)) => add_one(&mut self.nothing),
+            Ok(Granted::Done | Granted::Aged { .. }) => add_one(&mut self.done),
+            Ok(Granted::Stamp(_)) => add_one(&mut self.commits),
+            Err(why) => self.count_refusal(why.number()),
         }
     }
 
+    // By its number, since the counts are printed in the order of the numbers.
     fn count_refusal(&mut self, number: u8) {
-        if 3 <= number && number < 12 {
-            add_one(&mut self.refused[number as usize - 3]);
+        let Some(slot) = usize::from(number).checked_sub(FIRST_REFUSAL) else {
+            return;
+        };
+        if let Some(count) = self.refused.get_mut(slot) {
+            add_one(count);
         }
     }
 
