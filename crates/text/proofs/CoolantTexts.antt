@@ -2,24 +2,23 @@
 -- A text has one of two kinds, with and without a minus sign.
 use Rattle.std.proofs.Common.{◌≡◌, ℕ, ◌+◌, ◌-◌, ◌<◌, ◌≤◌, Bool, true, false, cond, ◌&&◌, eqb, ltb, ◌⊎◌, List, [], ◌∷◌, length, get_or, drop, Some, None, decimal, Option, sym, refl, ap, ◌∙◌, inl, inr, arith}
 use Rattle.std.proofs.lemmas.List.{drop_more}
-use Rattle.std.proofs.lemmas.Bool.{and_parts, and_right, cases_eq, cases_lt, eq-eqb, eqb-true, le-ltb, lt-ltb, ltb-true, ne_eqb}
+use Rattle.std.proofs.lemmas.Bool.{and_parts, cases_eq, cases_lt, eq-eqb, eqb-true, lt-ltb, ltb-true, ne_eqb}
 use Rattle.std.proofs.lemmas.Bool.Decides.{nat_tests}
-use Rattle.std.specs.Char.{is_ascii_digit}
 use Rattle.std.specs.Str.{all_ascii_digits}
 use Rattle.text.specs.Coolants.{below_zero, from_zero, coolant_of, coolant_text}
 use Rattle.text.specs.Decimals.{decimal_of}
+use Rattle.text.specs.Own.{Own}
 use Rattle.text.specs.declared.coolant.Coolant.{Coolant}
 use Rattle.text.proofs.DecimalTexts.{all_digits, decimal_back, decimal_forth, decimal_some_bytes}
-use Rattle.text.proofs.NumberTexts.{none_some}
 
 -- the two kinds of a temperature's text
 pub coolant_below_zero : (c : Coolant) → c.raw < 40 → coolant_text c ≡ 45 ∷ decimal (40 - c.raw)
 unfolding coolant_text
-coolant_below_zero c h = let t = lt-ltb c.raw 40 h in rw t (ap (λ n. 45 ∷ decimal n) (omega arith))
+coolant_below_zero c h = grind (arith, nat_tests)
 
 pub coolant_from_zero : (c : Coolant) → 40 ≤ c.raw → coolant_text c ≡ decimal (c.raw - 40)
 unfolding coolant_text
-coolant_from_zero c h = let t = le-ltb c.raw 40 h in rw t refl
+coolant_from_zero c h = grind (arith, nat_tests)
 
 either_way : {X : Type 0} (b : Bool) (x y : Option X) (v : X) → cond b x y ≡ Some v → ((b ≡ true) × (x ≡ Some v)) ⊎ ((b ≡ false) × (y ≡ Some v))
 either_way true x y v e = inl (refl, e)
@@ -29,15 +28,15 @@ same_raw : (x : ℕ) (c : Coolant) → Some (record { raw = x }) ≡ Some c → 
 same_raw x c e = let g : record { raw = x } ≡ c = cc in ap (λ (y : Coolant). y.raw) (sym g)
 
 below_parts : (o : Option ℕ) (c : Coolant) → below_zero o ≡ Some c → (n : ℕ) × (o ≡ Some n) × (0 < n) × (c.raw ≡ 40 - n)
-below_parts None c e = absurd (none_some c e)
+below_parts None c e = absurd (cc)
 below_parts (Some n) c e =
     elim (cases_eq n 0) [
-      | inl z ↦ let t = eq-eqb n 0 z in absurd (none_some c (simp t at e))
+      | inl z ↦ let t = eq-eqb n 0 z in let n = simp t at e in absurd (cc)
       | inr z ↦ let t = ne_eqb n 0 z in (n, refl, omega arith, same_raw (40 - n) c (simp t at e))
     ]
 
 from_parts : (o : Option ℕ) (c : Coolant) → from_zero o ≡ Some c → (n : ℕ) × (o ≡ Some n) × (c.raw ≡ 40 + n)
-from_parts None c e = absurd (none_some c e)
+from_parts None c e = absurd (cc)
 from_parts (Some n) c e = (n, refl, same_raw (40 + n) c e)
 
 -- a text that reads as a temperature is its own
@@ -59,14 +58,9 @@ coolant_forth s c e = elim (either_way (ltb 0 (length s) && eqb (get_or s 0 0) 4
       (decimal_some_bytes 215 s q.0 (omega arith) q.1, omega arith, coolant_from_zero c (omega arith) ∙ ap decimal v ∙ d.1)
 ]
 
-digit_no_minus : (b : ℕ) → is_ascii_digit b ≡ true → eqb b 45 ≡ false
-digit_no_minus b h = grind (arith, nat_tests)
-
 no_minus : (s : List ℕ) → all_ascii_digits s ≡ true → (ltb 0 (length s) && eqb (get_or s 0 0) 45) ≡ false
 no_minus [] h = refl
-no_minus (b ∷ bs) h =
-    let p = and_parts (is_ascii_digit b) (all_ascii_digits bs) h in
-    and_right (ltb 0 (length (b ∷ bs))) (eqb b 45) (digit_no_minus b p.0)
+no_minus (b ∷ bs) h = grind (arith, nat_tests)
 
 -- the text of every temperature reads back
 pub coolant_back : (c : Coolant) → c.raw ≤ 255 → coolant_of (coolant_text c) ≡ Some c
@@ -84,3 +78,6 @@ coolant_back c h = elim (cases_lt c.raw 40) [
       ap coolant_of (coolant_from_zero c p)
       ∙ simp (no_minus (decimal n) (all_digits n (omega arith)), decimal_back 215 n (omega arith) (omega arith)) (ap (λ x. Some (record { raw = x })) same)
 ]
+
+pub own_coolant : Own coolant_of coolant_text (λ c. c.raw ≤ 255)
+own_coolant = record { forth = coolant_forth; back = coolant_back }

@@ -8,8 +8,9 @@ use Rattle.std.proofs.lemmas.Bool.Decides.{nat_tests}
 use Rattle.std.specs.Char.{is_ascii_digit}
 use Rattle.std.specs.Str.{all_ascii_digits}
 use Rattle.text.specs.Decimals.{decimal_of}
+use Rattle.text.specs.Own.{Own}
 use Rattle.text.specs.Digits.{digit_of, with_digits, at_most}
-use Rattle.text.proofs.NumberTexts.{none_after, none_some}
+use Rattle.text.proofs.NumberTexts.{none_after}
 use Rattle.text.proofs.Reading.{at_most_is, at_most_parts}
 
 abbrev read_on : ℕ → List ℕ → ℕ
@@ -42,12 +43,12 @@ digits_read (b ∷ bs) n v e =
           let d = is_digit b h in
           let i = digits_read bs (n * 10 + digit_of b) v (simp t at e) in
           (rw d.0 i.0, i.1 ∙ ap (λ m. read_on (n * 10 + m) bs) d.1)
-      | inr h ↦ let t = le-ltb (digit_of b) 10 h in absurd (none_some v (sym (none_after 10 bs) ∙ (simp t at e)))
+      | inr h ↦ let t = le-ltb (digit_of b) 10 h in let n : None ≡ Some v = sym (none_after 10 bs) ∙ (simp t at e) in absurd (cc)
     ]
 
 -- the test that refuses the empty text and leading zeros
 passed : (b : Bool) (x : Option ℕ) (v : ℕ) → cond b None x ≡ Some v → (b ≡ false) × (x ≡ Some v)
-passed true x v e = absurd (none_some v e)
+passed true x v e = absurd (cc)
 passed false x v e = (refl, e)
 
 well_begun : (n b : ℕ) → (eqb n 0 || (eqb b 48 && ltb 1 n)) ≡ false → (0 < n) × (b ≡ 48 → n ≡ 1)
@@ -57,10 +58,7 @@ begun_well : (n b : ℕ) → 0 < n → (b ≡ 48 → n ≡ 1) → (eqb n 0 || (e
 begun_well n b h f = grind (arith, nat_tests, f)
 
 only_zero : (v : ℕ) → v < 2 ^ 64 → get_or (decimal v) 0 0 ≡ 48 → length (decimal v) ≡ 1
-only_zero v h e = elim (cases_lt 0 v) [
-  | inl p ↦ absurd (omega (arith, first_decimal v p h))
-  | inr z ↦ ap length (decimal_digit v (omega arith))
-]
+only_zero v h e = grind (arith, first_decimal v, decimal_digit v)
 
 -- a text that reads as a number is the number's own
 pub decimal_forth : (limit : ℕ) (s : List ℕ) (v : ℕ) → limit < 2 ^ 64 → decimal_of limit s ≡ Some v → (v ≤ limit) × (decimal v ≡ s)
@@ -90,3 +88,18 @@ pub decimal_some_bytes : (limit : ℕ) (s : List ℕ) (v : ℕ) → limit < 2 ^ 
 decimal_some_bytes limit s v h e =
     let p = decimal_forth limit s v h e in
     omega (arith, decimal_nonempty v (omega arith), ap length p.1)
+
+pub own_decimal : (limit : ℕ) → limit < 2 ^ 64 → Own (decimal_of limit) decimal (λ n. n ≤ limit)
+own_decimal limit h = record {
+  forth = λ s v e. let d = decimal_forth limit s v h e in (decimal_some_bytes limit s v h e, d.0, d.1);
+  back = λ v g. decimal_back limit v h g;
+}
+
+pub own_u8 : Own (decimal_of 255) decimal (λ n. n ≤ 255)
+own_u8 = own_decimal 255 (omega arith)
+
+pub own_u16 : Own (decimal_of 65535) decimal (λ n. n ≤ 65535)
+own_u16 = own_decimal 65535 (omega arith)
+
+pub own_u32 : Own (decimal_of 4294967295) decimal (λ n. n ≤ 4294967295)
+own_u32 = own_decimal 4294967295 (omega arith)

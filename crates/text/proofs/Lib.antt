@@ -1,12 +1,10 @@
 pub mod Table
 pub mod Reading
-pub mod Writing
-pub mod Spaces
 pub mod NumberTexts
 pub mod DecimalTexts
 pub mod FieldTexts
+pub mod OwnTexts
 pub mod CodeTexts
 pub mod VehicleTexts
 pub mod CoolantTexts
 pub mod RecordTexts
-pub mod ReadTexts

@@ -4,33 +4,27 @@ use Rattle.std.proofs.Common.{◌≡◌, ℕ, zero, suc, ◌+◌, ◌*◌, ◌/�
 use native.Mathlib.Nat.{pow-succ', pow-zero}
 use lib.Arith.{digits_div, digits_lt, digits_mod}
 use Rattle.std.proofs.lemmas.List.{take_all, take_more}
+use Rattle.std.proofs.lemmas.List.Sums.{fold_push}
 use Rattle.std.proofs.lemmas.Bool.{cases_lt, lt-ltb, le-ltb}
 use Rattle.std.proofs.lemmas.Bool.Decides.{nat_tests}
 use Rattle.text.specs.Digits.{digit_of, digit_byte, with_digit, with_digits, number_of, at_most, last_digits}
 use Rattle.text.proofs.Reading.{at_most_is}
 
-pub none_some : {X : Type 0} (x : X) → None ≡ Some x → ⊥
-none_some x e = let z : ◌≡◌ {A = ℕ} 0 1 = cc in omega arith
-
 pub some_if : {X : Type 0} (b : Bool) (x : Option X) (v : X) → cond b x None ≡ Some v → (b ≡ true) × (x ≡ Some v)
 some_if true x v e = (refl, e)
-some_if false x v e = absurd (none_some v e)
+some_if false x v e = absurd (cc)
 
 -- what is no number stays none
 pub none_after : (base : ℕ) (s : List ℕ) → with_digits base None s ≡ None
 none_after base [] = refl
 none_after base (b ∷ bs) = none_after base bs
 
-digits_push : (base : ℕ) (o : Option ℕ) (s : List ℕ) (b : ℕ) → with_digits base o (s ++ (b ∷ [])) ≡ with_digit base (with_digits base o s) (digit_of b)
-digits_push base o [] b = refl
-digits_push base o (c ∷ cs) b = digits_push base (with_digit base o (digit_of c)) cs b
-
 digit_parts : (base : ℕ) (o : Option ℕ) (d v : ℕ) → with_digit base o d ≡ Some v → (n : ℕ) × (o ≡ Some n) × (d < base) × (v ≡ n * base + d)
-digit_parts base None d v e = absurd (none_some v e)
+digit_parts base None d v e = absurd (cc)
 digit_parts base (Some n) d v e =
     elim (cases_lt d base) [
       | inl h ↦ let t = lt-ltb d base h in let f : Some (n * base + d) ≡ Some v = simp t at e in (n, refl, h, cc)
-      | inr h ↦ let t = le-ltb d base h in absurd (none_some v (simp t at e))
+      | inr h ↦ let t = le-ltb d base h in let n = simp t at e in absurd (cc)
     ]
 
 -- what holds of the empty text, and with every digit that is put behind, holds of each text that writes a number
@@ -43,7 +37,7 @@ by_last_digit base P none more (suc count) s v h e =
     let b = get_or s count 0 in
     let front = take count s in
     let parts : s ≡ front ++ (b ∷ []) = sym (take_all (count + 1) s (omega arith)) ∙ take_more s count 0 (omega arith) in
-    let p = digit_parts base _ (digit_of b) v (sym (digits_push base (Some 0) front b) ∙ ap (number_of base) (sym parts) ∙ e) in
+    let p = digit_parts base _ (digit_of b) v (sym (fold_push _ (Some 0) front b) ∙ ap (number_of base) (sym parts) ∙ e) in
     let before = by_last_digit base P none more count front p.0 (length-take count s ∙ omega arith) p.1 in
     let whole = more count p.0 b front p.2 before in
     subst (λ (n : ℕ). P (suc count) n s) (sym p.3) (subst (λ (xs : List ℕ). P (suc count) (p.0 * base + digit_of b) xs) (sym parts) whole)
@@ -69,6 +63,18 @@ pub within_limit : (base count limit : ℕ) (s : List ℕ) (o : Option ℕ) → 
 within_limit base count limit s None h g e = refl
 within_limit base count limit s (Some v) h g e = at_most_is limit v (omega (arith, digits_bound base count s v h e))
 
+-- one digit more is put behind the others, and no digits are no bytes
+pub one_more : (base count n : ℕ) → last_digits base (count + 1) n ≡ last_digits base count (n / base) ++ digit_byte (n % base) ∷ []
+unfolding last_digits
+one_more base count n = rw (add-one count) refl
+
+pub no_digits : (base : ℕ) (out : List ℕ) (n : ℕ) → length out ≡ 0 → last_digits base (length out) n ≡ out
+unfolding last_digits
+no_digits base [] n h = refl
+no_digits base (b ∷ bs) n h = absurd (omega arith)
+
+pub ruleset written = (one_more, no_digits)
+
 pub length_last_digits : (base count n : ℕ) → length (last_digits base count n) ≡ count
 unfolding last_digits
 length_last_digits base zero n = refl
@@ -85,7 +91,7 @@ digits_back base All h none more (suc count) n a =
     let p = more count n a in
     let w = digits_back base All h none more count (n / base) p.1 in
     let t = lt-ltb (n % base) base (mod-lt n h) in
-    digits_push base (Some 0) (last_digits base count (n / base)) (digit_byte (n % base))
+    fold_push _ (Some 0) (last_digits base count (n / base)) (digit_byte (n % base))
     ∙ ap (λ o. with_digit base o (digit_of (digit_byte (n % base)))) w ∙ ap (with_digit base (Some (n / base))) p.0
     ∙ rw t (ap Some (div-add-mod' n base))
 

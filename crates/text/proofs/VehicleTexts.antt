@@ -1,22 +1,24 @@
 -- Vehicle keys as text: what is read is the key's own text, and the text of every key reads back.
 -- Digits that were read are those of vehicle characters, so their numbers are spelled, which is what a key asks for;
 -- and the digits of spelled numbers stand for themselves, so they read back.
-use Rattle.std.proofs.Common.{◌≡◌, ℕ, ◌-◌, ◌/◌, ◌%◌, ◌<◌, true, cond, eqb, List, [], ◌++◌, length, take, drop, IfOk, Some, None, Option, Result, sym, refl, ap, ◌∙◌, append-nil, arith, length-append, length-drop, take-append-drop, length-take, MatchResult}
-use borrow.Rule.Slice.PartMut.{put_mid}
+use Rattle.std.proofs.Common.{◌≡◌, ℕ, ◌/◌, ◌%◌, ◌<◌, Bool, true, false, cond, eqb, List, ◌++◌, length, take, drop, Some, None, Option, Result, sym, refl, ap, ◌∙◌, arith, length-append, length-drop, take-append-drop, length-take, MatchResult}
 use lib.Arith.{digits_div, digits_mod}
-use Rattle.std.proofs.lemmas.List.{drop_all, drop_at, take_at, take_rest}
-use Rattle.std.proofs.lemmas.Bool.{and_from, and_parts, cond-true, eq-eqb, eqb-true}
+use Rattle.std.proofs.lemmas.List.{drop_at, take_at}
+use Rattle.std.proofs.lemmas.Bool.{and_from, and_parts, cond-true, false≢true, eq-eqb, eqb-true}
 use Rattle.std.proofs.lemmas.Bool.Decides.{nat_tests}
 use Rattle.std.specs.Option.{option_map, ok_or}
-use Rattle.keys.specs.Refusals.{plain}
+use Rattle.std.proofs.lemmas.Option.{none-some}
+use Rattle.keys.specs.VehicleOrder.{same_vehicle}
 use Rattle.keys.specs.VehicleDigits.{spelled, vehicle_digit, vehicle_digits}
 use Rattle.keys.specs.Vehicles.{numbers}
 use Rattle.keys.specs.declared.vehicle.VehicleKey.{VehicleKey}
 use Rattle.text.specs.Digits.{digit_of, digit_byte, number_of, at_most, last_digits}
-use Rattle.text.specs.VehicleKeys.{both, numbered, vehicle_key_of, vehicle_key_text}
+use Rattle.text.specs.Own.{Own}
+use Rattle.text.specs.VehicleKeys.{key_of, key_with, vehicle_key_of, vehicle_key_text, vehicle_of}
 use Rattle.text.specs.declared.refusal.TextRefusal.{TextRefusal}
 use Rattle.text.specs.declared.refusal.TextRefusal.TheVariants.{Malformed}
-use Rattle.text.proofs.NumberTexts.{by_last_digit, digits_back, length_last_digits, none_some, own_digits, some_if, within_limit}
+use Rattle.text.proofs.NumberTexts.{by_last_digit, digits_back, length_last_digits, own_digits, some_if, within_limit}
+use Rattle.text.proofs.OwnTexts.{zip_parts}
 
 read_digit : (b : ℕ) → digit_of b < 36 → vehicle_digit (digit_of b) ≡ true
 read_digit b h = grind (arith, nat_tests)
@@ -36,20 +38,13 @@ spelled_back =
     digits_back 36 (λ count n. vehicle_digits count n ≡ true) (omega arith) (λ n a. eqb-true n 0 a)
     (λ count n a. let p = and_parts (vehicle_digit (n % 36)) (vehicle_digits count (n / 36)) a in (own_digit (n % 36) (omega arith) p.0, p.1))
 
-both_parts : (o p : Option ℕ) (first second : ℕ) → both o p ≡ Some (first, second) → (o ≡ Some first) × (p ≡ Some second)
-both_parts None p first second e = absurd (none_some (first, second) e)
-both_parts (Some f) None first second e = absurd (none_some (first, second) e)
-both_parts (Some f) (Some l) first second e =
-    let g : (f, l) ≡ (first, second) = cc in
-    (ap (λ (x : ℕ × ℕ). Some x.0) g, ap (λ (x : ℕ × ℕ). Some x.1) g)
-
 -- the two parts of a text that reads as a key, and the number of each
 text_parts : (s : List ℕ) (first second : ℕ) → vehicle_key_of s ≡ Some (first, second) →
     (length s ≡ 17) × (number_of 36 (take 9 s) ≡ Some first) × (number_of 36 (drop 9 s) ≡ Some second)
 unfolding vehicle_key_of
 text_parts s first second e =
     let p = some_if (eqb (length s) 17) _ (first, second) e in
-    let q = both_parts _ _ first second p.1 in
+    let q = zip_parts _ _ (first, second) p.1 in
     (eqb-true (length s) 17 p.0, q.0, q.1)
 
 -- the lengths of the two parts
@@ -89,38 +84,42 @@ vehicle_key_back key =
     simp t (simp (a, b))
 
 -- nine and eight digits in base 36 never pass the limit at which they are read
-pub first_read : (s : List ℕ) (o : Option ℕ) → length s ≡ 17 → o ≡ at_most 18446744073709551615 (number_of 36 (take 9 s)) → o ≡ number_of 36 (take 9 s)
-first_read s o h e = e ∙ within_limit 36 9 18446744073709551615 (take 9 s) _ (nine s h) (omega arith) refl
+pub first_read : (s : List ℕ) → length s ≡ 17 → at_most 18446744073709551615 (number_of 36 (take 9 s)) ≡ number_of 36 (take 9 s)
+first_read s h = within_limit 36 9 18446744073709551615 (take 9 s) _ (nine s h) (omega arith) refl
 
-pub second_read : (s : List ℕ) (o : Option ℕ) → length s ≡ 17 → o ≡ at_most 18446744073709551615 (number_of 36 (take (length s - 9) (drop 9 s))) →
-    o ≡ number_of 36 (drop 9 s)
-second_read s o h e =
-    e ∙ ap (λ x. at_most 18446744073709551615 (number_of 36 x)) (take_rest s 9)
-    ∙ within_limit 36 8 18446744073709551615 (drop 9 s) _ (eight s h) (omega arith) refl
+pub second_read : (s : List ℕ) → length s ≡ 17 → at_most 18446744073709551615 (number_of 36 (drop 9 s)) ≡ number_of 36 (drop 9 s)
+second_read s h = within_limit 36 8 18446744073709551615 (drop 9 s) _ (eight s h) (omega arith) refl
 
--- the text of a key, written in two parts
-pub text_written : (out first second : List ℕ) (key : VehicleKey) → length out ≡ 17 → first ≡ last_digits 36 (length (take 9 out)) key.first →
-    second ≡ last_digits 36 (length (take 8 (drop 9 (first ++ drop 9 out)))) key.second → put_mid 9 8 (first ++ drop 9 out) second ≡ vehicle_key_text key
-unfolding vehicle_key_text
-text_written out first second key h e f =
-    let rest = drop 9 out in
-    let n : first ≡ last_digits 36 9 key.first = e ∙ ap (λ k. last_digits 36 k key.first) (nine out h) in
-    let l : length first ≡ 9 = ap length n ∙ length_last_digits 36 9 key.first in
-    let behind = drop_at first rest 9 l in
-    let k : length (take 8 (drop 9 (first ++ rest))) ≡ 8 = ap (λ xs. length (take 8 xs)) behind ∙ length-take 8 rest ∙ omega (arith, eight out h) in
-    let m : second ≡ last_digits 36 8 key.second = f ∙ ap (λ j. last_digits 36 j key.second) k in
-    let none : drop 8 (drop 9 (first ++ rest)) ≡ [] = ap (drop 8) behind ∙ drop_all 8 rest (omega (arith, eight out h)) in
-    rw (none, take_at first rest 9 l, append-nil second, m) (ap (λ xs. xs ++ last_digits 36 8 key.second) n)
+-- a key is the one with its numbers
+with_own : (key : VehicleKey) (b : Bool) (e : spelled key.first key.second ≡ b) → key_with key.first key.second b e ≡ Some key
+with_own key true e = ap Some (same_vehicle (record { first = key.first; second = key.second; spelled = e }) key refl refl)
+with_own key false e = absurd (false≢true (sym e ∙ key.spelled))
 
--- what is told of a key that was found, or not, by its numbers
-pub told_by_numbers : (o : Option VehicleKey) (r : Result VehicleKey TextRefusal) (p : Option (ℕ × ℕ)) → r ≡ ok_or o Malformed → option_map numbers o ≡ p → numbered r ≡ ok_or p (plain 12)
-told_by_numbers None r p e f = rw (e, sym f) refl
-told_by_numbers (Some key) r p e f = rw (e, sym f) refl
+pub key_again : (key : VehicleKey) → key_of (Some (numbers key)) ≡ Some key
+key_again key = with_own key (spelled key.first key.second) refl
 
-pub read_own_key : (s : List ℕ) (o : Option VehicleKey) (r : Result VehicleKey TextRefusal) → r ≡ ok_or o Malformed → option_map numbers o ≡ vehicle_key_of s →
-    IfOk r (λ key. vehicle_key_text key ≡ s)
-read_own_key s None r e f = rw e tt
-read_own_key s (Some key) r e f = rw e (vehicle_key_forth s key (sym f))
+with_spelled : (first second : ℕ) (b : Bool) (e : spelled first second ≡ b) → b ≡ true → option_map numbers (key_with first second b e) ≡ Some (first, second)
+with_spelled first second true e h = refl
+with_spelled first second false e h = absurd (false≢true h)
+
+spelled_numbers : (o : Option (ℕ × ℕ)) → ((first second : ℕ) → o ≡ Some (first, second) → spelled first second ≡ true) → option_map numbers (key_of o) ≡ o
+spelled_numbers None h = refl
+spelled_numbers (Some p) h = with_spelled p.0 p.1 (spelled p.0 p.1) refl (h p.0 p.1 refl)
+
+-- numbers that a text gives are those of the key for which it stands
+pub vehicle_numbers : (s : List ℕ) → option_map numbers (vehicle_of s) ≡ vehicle_key_of s
+vehicle_numbers s = spelled_numbers (vehicle_key_of s) (λ first second e. let p = text_parts s first second e in pair_spelled s first second p.0 p.1 p.2)
+
+pub own_vehicle_key : Own vehicle_of vehicle_key_text (λ _. Unit {0})
+own_vehicle_key = record {
+  forth = λ s key e.
+      let told : vehicle_key_of s ≡ Some (numbers key) = sym (vehicle_numbers s) ∙ ap (option_map numbers) e in
+      (omega (arith, (text_parts s key.first key.second told).0), tt, vehicle_key_forth s key told);
+  back = λ key _. ap key_of (vehicle_key_back key) ∙ key_again key;
+}
+
+-- what the reader of keys is proved by
+pub ruleset key_laws = (own_vehicle_key, first_read, second_read, pair_spelled)
 
 -- just the numbers that some text gives are granted
 pub granted_by_texts : (first second : ℕ) (o : Option VehicleKey) (r : Result VehicleKey TextRefusal) → r ≡ ok_or o Malformed →
@@ -130,5 +129,5 @@ granted_by_texts first second None r e f =
     rw e (λ s g.
     let p = text_parts s first second g in
     let t = pair_spelled s first second p.0 p.1 p.2 in
-    none_some (first, second) (f ∙ cond-true (spelled first second) _ _ t))
+    none-some (first, second) (f ∙ cond-true (spelled first second) _ _ t))
 granted_by_texts first second (Some key) r e f = rw e (vehicle_key_back key ∙ sym (some_if (spelled first second) _ (numbers key) (sym f)).1)

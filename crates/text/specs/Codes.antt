@@ -3,6 +3,8 @@
 -- A code key's text is the unit in hexadecimal, a colon and the code text.
 use Rattle.std.specs.Prelude.{ℕ, ◌+◌, ◌*◌, ◌/◌, ◌%◌, ◌<◌, cond, ◌&&◌, List, ◌∷◌, ◌++◌, length, take, drop, Some, None, Option, ◌==◌, slice_index}
 use Rattle.keys.specs.declared.code.CodeKey.{CodeKey}
+use Rattle.std.specs.Option.{option_map, option_zip}
+use Rattle.text.specs.declared.code.TroubleCode.{TroubleCode}
 use Rattle.text.specs.Digits.{number_of, at_most, last_digits}
 
 -- the letters P, C, B, U stand for 0 to 3
@@ -14,36 +16,33 @@ letter_value b =
 abbrev pub letter_of : ℕ → ℕ
 letter_of n = cond (n == 0) 80 (cond (n == 1) 67 (cond (n == 2) 66 85))
 
--- a code from its top two bits and its low fourteen, where both are there
-abbrev pub code_with : Option ℕ → Option ℕ → Option ℕ
-code_with None low = None
-code_with (Some top) None = None
-code_with (Some top) (Some low) = Some (top * 0x4000 + low)
-
 -- the code that a text stands for
 unfoldable pub code_of : List ℕ → Option ℕ
 code_of s =
-    cond (length s == 5) (code_with (letter_value (slice_index s 0)) (at_most 0x3FFF (number_of 16 (drop 1 s)))) None
+    cond (length s == 5)
+    (option_map (λ bits. bits.0 * 0x4000 + bits.1) (option_zip (letter_value (slice_index s 0)) (at_most 0x3FFF (number_of 16 (drop 1 s))))) None
+
+-- the trouble code that a text stands for
+abbrev pub trouble_code_of : List ℕ → Option TroubleCode
+trouble_code_of s = option_map (λ bits. record { bits = bits }) (code_of s)
 
 -- the text of a code
 unfoldable pub code_text : ℕ → List ℕ
 code_text code = letter_of (code / 0x4000) ∷ last_digits 16 4 (code % 0x4000)
 
--- a code key from its unit and its code, where both are there
-abbrev pub code_key_with : Option ℕ → Option ℕ → Option CodeKey
-code_key_with None code = None
-code_key_with (Some unit) None = None
-code_key_with (Some unit) (Some code) = Some (record { unit = unit; code = code })
-
 -- the code key that a text stands for; byte 58 is the colon
 unfoldable pub code_key_of : List ℕ → Option CodeKey
 code_key_of s =
     cond (length s == 10 && slice_index s 4 == 58)
-    (code_key_with (number_of 16 (take 4 s)) (code_of (drop 5 s))) None
+    (option_map (λ key. record { unit = key.0; code = key.1 }) (option_zip (number_of 16 (take 4 s)) (code_of (drop 5 s)))) None
 
 -- the text of a code key
 unfoldable pub code_key_text : CodeKey → List ℕ
 code_key_text key = last_digits 16 4 key.unit ++ 58 ∷ code_text key.code
+
+-- the range of a trouble code's bits, which every trouble code of a program keeps
+abbrev pub TroubleCodeFits : TroubleCode → Type 0
+TroubleCodeFits code = code.bits < 0x10000
 
 -- the ranges of a code key's numbers, which every code key of a program keeps
 abbrev pub CodeKeyFits : CodeKey → Type 0

@@ -1,6 +1,6 @@
 -- Coolant temperatures in degrees Celsius, and their texts.
 -- A byte holds the degrees above -40, so its values are just those of the range.
-use Rattle.std.specs.Prelude.{ℕ, ◌+◌, ◌-◌, Bool, cond, ◌&&◌, List, length, drop, ℤ, pos, negsuc, ◌-ℤ◌, Some, None, Option, ◌==◌, int_le, nat_lt, slice_index}
+use Rattle.std.specs.Prelude.{ℕ, ◌+◌, ◌-◌, ◌≤◌, Bool, cond, ◌&&◌, List, length, drop, ℤ, pos, negsuc, ◌-ℤ◌, Some, None, Option, ◌==◌, int_le, nat_lt, slice_index}
 use Rattle.std.specs.Fmt.{signed_decimal}
 use Rattle.text.specs.Decimals.{decimal_of}
 use Rattle.text.specs.declared.coolant.Coolant.{Coolant}
@@ -31,3 +31,7 @@ from_zero (Some n) = Some (record { raw = 40 + n })
 unfoldable pub coolant_of : List ℕ → Option Coolant
 coolant_of s =
     cond (nat_lt 0 (length s) && slice_index s 0 == 45) (below_zero (decimal_of 40 (drop 1 s))) (from_zero (decimal_of 215 s))
+
+-- the range of a temperature's byte, which every temperature of a program keeps
+abbrev pub CoolantFits : Coolant → Type 0
+CoolantFits coolant = coolant.raw ≤ 255

@@ -1,5 +1,6 @@
 -- Digits, and numbers in a base: read from a text, and written with a given count of digits.
 -- All bases share their digits, 0 to 9 and then A to Z; I, O and Q are left out and stand for none.
+use Rattle.std.specs.List.{fold}
 use Rattle.std.specs.Prelude.{ℕ, zero, suc, ◌+◌, ◌-◌, ◌*◌, ◌/◌, ◌%◌, Bool, cond, not, ◌&&◌, ◌||◌, List, [], ◌∷◌, ◌++◌, Some, None, Option, ◌==◌, nat_le, nat_lt}
 
 -- the letters of vehicle texts: A to Z (65 to 90) without I, O and Q
@@ -21,8 +22,7 @@ with_digit base (Some n) d = cond (nat_lt d base) (Some (n * base + d)) None
 
 -- a number with the digits of a text behind it
 abbrev pub with_digits : ℕ → Option ℕ → List ℕ → Option ℕ
-with_digits base n [] = n
-with_digits base n (b ∷ bs) = with_digits base (with_digit base n (digit_of b)) bs
+with_digits base n s = fold (λ m b. with_digit base m (digit_of b)) n s
 
 -- the number that a text writes in a base
 abbrev pub number_of : ℕ → List ℕ → Option ℕ

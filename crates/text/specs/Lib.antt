@@ -1,4 +1,5 @@
 pub mod Refusals
+pub mod Own
 pub mod Digits
 pub mod Decimals
 pub mod Codes

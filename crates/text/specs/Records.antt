@@ -1,27 +1,21 @@
 -- Records as text: their fields in decimal, each parted from the next by one space (byte 32).
 -- A text whose fields are not of the record's ranges stands for none.
-use Rattle.std.specs.Prelude.{ℕ, ◌≤◌, List, ◌∷◌, ◌++◌, Some, None, decimal, Option}
+use Rattle.std.specs.Option.{option_map, option_zip}
+use Rattle.std.specs.Prelude.{ℕ, ◌≤◌, List, ◌∷◌, ◌++◌, decimal, Option}
 use Rattle.text.specs.Coolants.{coolant_of, coolant_text}
 use Rattle.text.specs.Decimals.{decimal_of}
 use Rattle.text.specs.Fields.{first_field, later_fields}
-use Rattle.text.specs.declared.coolant.Coolant.{Coolant}
 use Rattle.text.specs.declared.record.FaultRecord.{FaultRecord}
 use Rattle.text.specs.declared.record.VehicleRecord.{VehicleRecord}
-
--- a fault record from its fields, where all are there
-abbrev pub fault_with : Option ℕ → Option ℕ → Option ℕ → Option Coolant → Option FaultRecord
-fault_with None occurrences speed coolant = None
-fault_with (Some status) None speed coolant = None
-fault_with (Some status) (Some occurrences) None coolant = None
-fault_with (Some status) (Some occurrences) (Some speed) None = None
-fault_with (Some status) (Some occurrences) (Some speed) (Some coolant) =
-    Some (record { status = status; occurrences = occurrences; engine_speed = speed; coolant = coolant })
 
 -- the fault record that a text stands for
 unfoldable pub fault_of : List ℕ → Option FaultRecord
 fault_of s =
-    fault_with (decimal_of 255 (first_field s)) (decimal_of 65535 (first_field (later_fields s)))
-    (decimal_of 65535 (first_field (later_fields (later_fields s)))) (coolant_of (later_fields (later_fields (later_fields s))))
+    option_map (λ f. record { status = f.0; occurrences = f.1.0; engine_speed = f.1.1.0; coolant = f.1.1.1 })
+    (option_zip (decimal_of 255 (first_field s))
+    (option_zip (decimal_of 65535 (first_field (later_fields s)))
+    (option_zip (decimal_of 65535 (first_field (later_fields (later_fields s))))
+    (coolant_of (later_fields (later_fields (later_fields s)))))))
 
 -- the text of a fault record
 unfoldable pub fault_text : FaultRecord → List ℕ
@@ -32,15 +26,11 @@ fault_text f =
 abbrev pub FaultFits : FaultRecord → Type 0
 FaultFits f = (f.status ≤ 255) × (f.occurrences ≤ 65535) × (f.engine_speed ≤ 65535) × (f.coolant.raw ≤ 255)
 
--- a vehicle record from its fields, where both are there
-abbrev pub vehicle_record_with : Option ℕ → Option ℕ → Option VehicleRecord
-vehicle_record_with None order = None
-vehicle_record_with (Some kilometres) None = None
-vehicle_record_with (Some kilometres) (Some order) = Some (record { kilometres = kilometres; work_order = order })
-
 -- the vehicle record that a text stands for
 unfoldable pub vehicle_record_of : List ℕ → Option VehicleRecord
-vehicle_record_of s = vehicle_record_with (decimal_of 4294967295 (first_field s)) (decimal_of 4294967295 (later_fields s))
+vehicle_record_of s =
+    option_map (λ v. record { kilometres = v.0; work_order = v.1 })
+    (option_zip (decimal_of 4294967295 (first_field s)) (decimal_of 4294967295 (later_fields s)))
 
 -- the text of a vehicle record
 abbrev pub vehicle_record_text : VehicleRecord → List ℕ

@@ -1,23 +1,28 @@
 // Trouble codes and code keys as text.
 // A code text is a letter, a digit from 0 to 3 and three hexadecimal digits in capitals; a code key's is four such digits for the unit, a colon and the code text.
 ghost use Rattle.std.specs.Prelude.{◌≡◌, ◌<◌, IfSome};
-ghost use Rattle.text.specs.Digits.{at_most, last_digits, number_of};
-ghost use Rattle.text.specs.Codes.{code_key_of, code_key_text, code_key_with, code_of, code_text, letter_of, letter_value};
+ghost use Rattle.text.specs.Codes.{CodeKeyFits, TroubleCodeFits, code_key_of, code_key_text, code_text, letter_of, letter_value, trouble_code_of};
+ghost use Rattle.text.specs.Digits.{last_digits};
 
 use crate::digits::{number, write_digits};
+use crate::from_text::FromText;
 use keys::CodeKey;
+
+// A trouble code: two bits for which its letter stands, and fourteen more.
+#[derive(Clone, Copy, PartialEq, Eq, Debug)]
+pub struct TroubleCode {
+    pub bits: u16,
+}
 
 const BASE: u64 = 16;
 
-// Characters of a code text, and of a code key's.
-const CODE_LENGTH: usize = 5;
+// Digits behind a code's letter, and of a unit.
+const LOW_DIGITS: usize = 4;
 
-const CODE_KEY_LENGTH: usize = 10;
+const UNIT_DIGITS: usize = 4;
 
-// What parts unit and code in a code key's text, and where it stands.
+// What parts unit and code in a code key's text.
 const COLON: u8 = b':';
-
-const COLON_PLACE: usize = 4;
 
 // How many values a code's low fourteen bits have, those below the two that its letter stands for.
 const LOW_VALUES: u16 = 0x4000;
@@ -49,67 +54,68 @@ fn letter_of(n: u16) -> u8
     letter as u8
 }
 
-// The code that a text stands for, or none.
-pub(crate) fn code_of(s: &[u8]) -> Option<u16>
-    ensures answer { result ≡ code_of s.now }
-{
-    if s.len() != CODE_LENGTH {
-        return None;
+// A letter and four digits, of which the first is at most 3.
+#[tactic(auto, using(crate::proofs::CodeTexts::own_trouble_code), unfolding(crate::specs::Codes::code_of))]
+impl FromText for TroubleCode {
+    ghost text = { λ code. code_text code.bits };
+
+    ghost Fits = { TroubleCodeFits };
+
+    ghost value = { trouble_code_of };
+
+    fn from_text(s: &[u8]) -> Option<TroubleCode> {
+        let (letter, digits) = s.split_first()?;
+        if digits.len() != LOW_DIGITS {
+            return None;
+        }
+        let top = letter_value(*letter)?;
+        let low = number(digits, BASE, u64::from(LOW_VALUES - 1))?;
+        Some(TroubleCode {
+            bits: top * LOW_VALUES + low as u16,
+        })
     }
-    let top = letter_value(s[0])?;
-    let low = number(&s[1..], BASE, (LOW_VALUES - 1) as u64)?;
-    Some(top * LOW_VALUES + low as u16)
 }
 
-// The code key that a text stands for, or none.
-pub fn code_key_of(s: &[u8]) -> Option<CodeKey>
-    ensures answer { result ≡ code_key_of s.now }
-{
-    if s.len() != CODE_KEY_LENGTH || s[COLON_PLACE] != COLON {
-        return None;
+// Four digits for the unit, a colon and the text of the code.
+#[tactic(auto, using(crate::proofs::CodeTexts::key_laws), unfolding(crate::specs::Codes::code_key_of))]
+impl FromText for CodeKey {
+    ghost text = { code_key_text };
+
+    ghost Fits = { CodeKeyFits };
+
+    ghost value = { code_key_of };
+
+    fn from_text(s: &[u8]) -> Option<CodeKey> {
+        let (unit, [COLON, code @ ..]) = s.split_first_chunk::<UNIT_DIGITS>()? else {
+            return None;
+        };
+        let unit = number(unit, BASE, u16::MAX.into())? as u16;
+        let code = TroubleCode::from_text(code)?;
+        Some(CodeKey {
+            unit,
+            code: code.bits,
+        })
     }
-    code_key_with(unit_of(&s[0..COLON_PLACE]), code_of(&s[COLON_PLACE + 1..]))
 }
 
-// The unit that hexadecimal digits stand for, or none.
-fn unit_of(s: &[u8]) -> Option<u16>
-    ensures answer { result ≡ at_most 0xFFFF (number_of 16 s.now) }
-{
-    Some(number(s, BASE, u16::MAX as u64)? as u16)
-}
-
-// The key of a unit and a code, where both are there.
-fn code_key_with(unit: Option<u16>, code: Option<u16>) -> Option<CodeKey>
-    ensures answer { result ≡ code_key_with unit code }
-{
-    Some(CodeKey {
-        unit: unit?,
-        code: code?,
-    })
-}
-
-// The four hexadecimal digits of a number.
-fn hex_digits(n: u16) -> [u8; 4]
-    ensures answer { result ≡ last_digits 16 4 n }
-{
-    let mut digits = [0; 4];
-    write_digits(&mut digits, BASE, n as u64);
-    digits
-}
-
-// The text of a code.
-pub fn write_code(code: u16) -> [u8; CODE_LENGTH]
+// The text of a code. An array and no Display, as with keys below: a piece of a page puts it down in one step.
+#[tactic(auto, unfolding(crate::specs::Codes::code_text))]
+pub fn write_code(code: u16) -> [u8; 5]
     ensures answer { result ≡ code_text code }
 {
-    let [a, b, c, d] = hex_digits(code % LOW_VALUES);
-    [letter_of(code / LOW_VALUES), a, b, c, d]
+    let mut text = [letter_of(code / LOW_VALUES); 5];
+    write_digits(&mut text[1..], BASE, u64::from(code % LOW_VALUES));
+    text
 }
 
-// The text of a code key.
-pub fn write_code_key(key: CodeKey) -> [u8; CODE_KEY_LENGTH]
+// The text of a code key. An array and no Display, since the trait and the key are both another crate's, and nothing is allocated.
+#[tactic(auto, using(crate::proofs::NumberTexts::length_last_digits), unfolding(crate::specs::Codes::code_key_text))]
+pub fn write_code_key(key: CodeKey) -> [u8; 10]
     ensures answer { result ≡ code_key_text key }
 {
-    let [a, b, c, d] = hex_digits(key.unit);
-    let [l, e, f, g, h] = write_code(key.code);
-    [a, b, c, d, COLON, l, e, f, g, h]
+    let mut text = [COLON; 10];
+    let (unit, rest) = text.split_at_mut(UNIT_DIGITS);
+    write_digits(unit, BASE, key.unit.into());
+    rest[1..].copy_from_slice(&write_code(key.code));
+    text
 }

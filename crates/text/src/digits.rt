@@ -3,7 +3,7 @@
 ghost use Rattle.std.specs.Prelude.{◌≡◌, ◌<◌, ◌≤◌, length, IfSome, Some};
 ghost use Rattle.text.specs.Digits.{at_most, digit_byte, digit_of, last_digits, number_of, with_digit};
 
-// The digit of each byte, 255 for a byte that is no vehicle character.
+// The digit of each byte, 255 for a byte that is no vehicle character: it is below no base, so one test tells all that are no digits.
 #[rattlefmt::skip]
 const DIGITS: [u8; 256] = [
     255, 255, 255, 255, 255, 255, 255, 255, 255, 255, 255, 255, 255, 255, 255, 255,
@@ -28,21 +28,24 @@ const DIGITS: [u8; 256] = [
 fn digit(b: u8) -> u8
     ensures answer { result ≡ digit_of b }
 {
-    DIGITS[b as usize]
+    DIGITS[usize::from(b)]
 }
 
 // A number with one more digit behind it, up to a limit.
 fn with_digit(n: u64, d: u8, base: u64, limit: u64) -> Option<u64>
     ensures answer { result ≡ at_most limit (with_digit base (Some n) d) }
 {
-    if d as u64 >= base {
+    let d = u64::from(d);
+    if d >= base {
         return None;
     }
-    let more = n.checked_mul(base)?.checked_add(d as u64)?;
-    if more > limit { None } else { Some(more) }
+    let more = n.checked_mul(base)?.checked_add(d)?;
+    (more <= limit).then_some(more)
 }
 
 // The number that a text writes in a base, up to a limit.
+// A loop with `?` and no try_fold, which says nothing of the digit at which it stops.
+#[tactic(auto, using(crate::proofs::Reading::turns))]
 pub(crate) fn number(s: &[u8], base: u64, limit: u64) -> Option<u64>
     ensures answer { result ≡ at_most limit (number_of base s.now) }
     ensures range { IfSome result (λ n. n ≤ limit) }
@@ -67,15 +70,13 @@ fn digit_byte(d: u64) -> u8
 }
 
 // Fills the bytes with the last digits of a number in a base.
+#[tactic(auto, using(crate::proofs::NumberTexts::written))]
 pub(crate) fn write_digits(out: &mut [u8], base: u64, number: u64)
     requires { (0 < base) × (base ≤ 36) }
     ensures after { out.new ≡ last_digits base (length out.old) number }
 {
-    let mut n = number;
-    let mut i = out.len();
-    while i > 0 {
-        i -= 1;
-        out[i] = digit_byte(n % base);
-        n /= base;
+    if let Some((last, front)) = out.split_last_mut() {
+        *last = digit_byte(number % base);
+        write_digits(front, base, number / base);
     }
 }

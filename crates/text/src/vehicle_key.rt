@@ -5,9 +5,11 @@ ghost use Rattle.keys.specs.VehicleDigits.{spelled};
 ghost use Rattle.keys.specs.Vehicles.{numbers};
 ghost use Rattle.std.specs.Option.{option_map, ok_or};
 ghost use Rattle.std.specs.Prelude.{◌≡◌, ℕ, List, length, if◌then◌else◌, Some, None, MatchResult, ◌≢◌};
-ghost use Rattle.text.specs.VehicleKeys.{numbered, vehicle_key_of, vehicle_key_text};
+ghost use Rattle.text.specs.Own.{Own};
+ghost use Rattle.text.specs.VehicleKeys.{numbered, vehicle_key_of, vehicle_key_text, vehicle_of};
 
 use crate::digits::{number, write_digits};
+use crate::from_text::FromText;
 use crate::refusal::TextRefusal;
 use keys::VehicleKey;
 
@@ -18,37 +20,44 @@ const LENGTH: usize = 17;
 
 const FIRST_LENGTH: usize = 9;
 
-// The key that a text stands for, or none.
-pub(crate) fn vehicle_key_of(s: &[u8]) -> Option<VehicleKey>
-    ensures answer { option_map numbers result ≡ vehicle_key_of s.now }
-{
-    if s.len() != LENGTH {
-        return None;
+// Nine characters for the first number and eight for the second; every key has a text, so none is out of range.
+#[tactic(auto, using(crate::proofs::VehicleTexts::key_laws), unfolding(crate::specs::VehicleKeys::vehicle_key_of))]
+impl FromText for VehicleKey {
+    ghost text = { vehicle_key_text };
+
+    ghost Fits = { λ _. Unit {0} };
+
+    ghost value = { vehicle_of };
+
+    fn from_text(s: &[u8]) -> Option<VehicleKey>
+        ensures answer { result ≡ vehicle_of s.now }
+        ensures own { Own vehicle_of vehicle_key_text (λ _. Unit {0}) }
+        ensures numbers { option_map numbers result ≡ vehicle_key_of s.now }
+    {
+        if s.len() != LENGTH {
+            return None;
+        }
+        let (first, second) = s.split_at(FIRST_LENGTH);
+        Some(VehicleKey {
+            first: number(first, BASE, u64::MAX)?,
+            second: number(second, BASE, u64::MAX)?,
+        })
     }
-    let first = number(&s[0..FIRST_LENGTH], BASE, u64::MAX)?;
-    let second = number(&s[FIRST_LENGTH..], BASE, u64::MAX)?;
-    Some(VehicleKey { first, second })
 }
 
-// The text of a key.
+// The text of a key. An array and no Display, since the trait and the key are both another crate's, and nothing is allocated.
+#[tactic(auto, unfolding(crate::specs::VehicleKeys::vehicle_key_text))]
 pub fn write_vehicle_key(key: VehicleKey) -> [u8; LENGTH]
     ensures answer { result ≡ vehicle_key_text key }
 {
     let mut text = [0; LENGTH];
-    write_numbers(&mut text, key);
+    let (first, second) = text.split_at_mut(FIRST_LENGTH);
+    write_digits(first, BASE, key.first);
+    write_digits(second, BASE, key.second);
     text
 }
 
-// Fills the bytes with the text of a key.
-fn write_numbers(out: &mut [u8], key: VehicleKey)
-    requires { length out.old ≡ 17 }
-    ensures after { out.new ≡ vehicle_key_text key }
-{
-    write_digits(&mut out[0..FIRST_LENGTH], BASE, key.first);
-    write_digits(&mut out[FIRST_LENGTH..LENGTH], BASE, key.second);
-}
-
-// The key with these two numbers.
+// The key with these two numbers. A function and no TryFrom, since the trait and the key are both another crate's.
 pub fn vehicle_key_from_numbers(first: u64, second: u64) -> Result<VehicleKey, TextRefusal>
     ensures answer { numbered result ≡ ok_or (if spelled first second then Some (first, second) else None) (plain 12) }
     ensures texts { MatchResult result (λ key. vehicle_key_of (vehicle_key_text key) ≡ Some (first, second)) (λ e. (s : List ℕ) → vehicle_key_of s ≢ Some (first, second)) }

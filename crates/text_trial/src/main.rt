@@ -2,12 +2,12 @@
 // Each line has a text, the value that it reads as and the text that is written of this value; or the number of the refusal.
 #![tactic(auto)]
 
-use keys::{CodeKey, VehicleKey};
+use keys::{CodeKey, Reason, VehicleKey};
 use std::io;
 use std::str::from_utf8;
 use text::{
-    Coolant, TextRefusal, read_code, read_code_key, read_fault, read_vehicle_key,
-    read_vehicle_record, vehicle_key_from_numbers, write_code, write_code_key, write_vehicle_key,
+    Coolant, FaultRecord, FromText, TextRefusal, TroubleCode, VehicleRecord,
+    vehicle_key_from_numbers, write_code, write_code_key, write_vehicle_key,
 };
 
 const CODES: &[&str] = &[
@@ -96,28 +96,16 @@ const VEHICLE_RECORDS: &[&str] = &[
     "120000 7 0",
 ];
 
-// What a text is tried as.
-#[derive(Clone, Copy)]
-enum Kind {
-    Code,
-    CodeKey,
-    VehicleKey,
-    Fault,
-    Vehicle,
-}
-
-const TABLES: [(Kind, &[&str]); 5] = [
-    (Kind::Code, CODES),
-    (Kind::CodeKey, CODE_KEYS),
-    (Kind::VehicleKey, VEHICLE_KEYS),
-    (Kind::Fault, FAULTS),
-    (Kind::Vehicle, VEHICLE_RECORDS),
-];
-
 fn main(rt: HostRuntime) -> io::Result<()> {
-    for (kind, texts) in TABLES {
-        try_texts(&rt, kind, texts)?;
-    }
+    try_texts(&rt, CODES, |text, code| print_code(&rt, text, code))?;
+    try_texts(&rt, CODE_KEYS, |text, key| print_code_key(&rt, text, key))?;
+    try_texts(&rt, VEHICLE_KEYS, |_, key| print_vehicle_key(&rt, key))?;
+    try_texts(&rt, FAULTS, |text, fault| print_fault(&rt, text, fault))?;
+    try_texts(
+        &rt,
+        VEHICLE_RECORDS,
+        |text, vehicle| print_vehicle_record(&rt, text, vehicle),
+    )?;
     for (first, second) in VEHICLE_NUMBERS {
         try_vehicle_numbers(&rt, first, second)?;
     }
@@ -127,104 +115,72 @@ fn main(rt: HostRuntime) -> io::Result<()> {
     Ok(())
 }
 
-fn try_texts(rt: &impl Print, kind: Kind, texts: &[&str]) -> io::Result<()> {
+// Tries each text as that of a value, and prints what was read.
+fn try_texts<V: FromText, F: Fn(&str, V) -> io::Result<()>>(
+    rt: &impl Print,
+    texts: &[&str],
+    print: F,
+) -> io::Result<()>
+    requires { F.IsAlwaysCallable print }
+{
     for text in texts {
-        try_text(rt, kind, text)?;
+        match V::read(text.as_bytes()) {
+            Ok(value) => print(text, value)?,
+            Err(refusal) => print_refusal(rt, text, refusal)?,
+        }
     }
     Ok(())
-}
-
-fn try_text(rt: &impl Print, kind: Kind, text: &str) -> io::Result<()> {
-    match kind {
-        Kind::Code => try_code(rt, text),
-        Kind::CodeKey => try_code_key(rt, text),
-        Kind::VehicleKey => try_vehicle_key(rt, text),
-        Kind::Fault => try_fault(rt, text),
-        Kind::Vehicle => try_vehicle_record(rt, text),
-    }
-}
-
-fn try_code(rt: &impl Print, text: &str) -> io::Result<()> {
-    match read_code(text.as_bytes()) {
-        Ok(code) => {
-            let written = write_code(code);
-            println!(rt; "'{text}' {code} {}", shown(&written))
-        }
-        Err(refusal) => print_refusal(rt, text, refusal),
-    }
-}
-
-fn try_code_key(rt: &impl Print, text: &str) -> io::Result<()> {
-    match read_code_key(text.as_bytes()) {
-        Ok(key) => {
-            let CodeKey { unit, code } = key;
-            let written = write_code_key(key);
-            println!(rt; "'{text}' {unit} {code} {}", shown(&written))
-        }
-        Err(refusal) => print_refusal(rt, text, refusal),
-    }
-}
-
-fn try_vehicle_key(rt: &impl Print, text: &str) -> io::Result<()> {
-    match read_vehicle_key(text.as_bytes()) {
-        Ok(key) => print_vehicle_key(rt, key),
-        Err(refusal) => print_refusal(rt, text, refusal),
-    }
 }
 
 fn try_vehicle_numbers(rt: &impl Print, first: u64, second: u64) -> io::Result<()> {
     match vehicle_key_from_numbers(first, second) {
         Ok(key) => print_vehicle_key(rt, key),
-        Err(refusal) => {
-            let number = refusal.number();
-            println!(rt; "{first} {second} no {number}")
-        }
+        Err(refusal) => { println!(rt; "{first} {second} no {}", refusal.number()) }
     }
 }
 
 fn try_degrees(rt: &impl Print, degrees: i16) -> io::Result<()> {
     match Coolant::from_celsius(degrees) {
-        Some(coolant) => {
-            let raw = coolant.raw;
-            println!(rt; "{degrees} {raw} {coolant}")
-        }
+        Some(coolant) => { println!(rt; "{degrees} {} {coolant}", coolant.raw) }
         None => println!(rt; "{degrees} none"),
     }
 }
 
-fn try_fault(rt: &impl Print, text: &str) -> io::Result<()> {
-    match read_fault(text.as_bytes()) {
-        Ok(fault) => {
-            let raw = fault.coolant.raw;
-            println!(rt; "'{text}' {raw} {fault}")
-        }
-        Err(refusal) => print_refusal(rt, text, refusal),
-    }
+fn print_code(rt: &impl Print, text: &str, code: TroubleCode) -> io::Result<()> {
+    println!(rt; "'{text}' {} {}", code.bits, shown(&write_code(code.bits)))
 }
 
-fn try_vehicle_record(rt: &impl Print, text: &str) -> io::Result<()> {
-    match read_vehicle_record(text.as_bytes()) {
-        Ok(vehicle) => println!(rt; "'{text}' {vehicle}"),
-        Err(refusal) => print_refusal(rt, text, refusal),
-    }
+fn print_code_key(rt: &impl Print, text: &str, key: CodeKey) -> io::Result<()> {
+    println!(rt;
+        "'{text}' {} {} {}",
+        key.unit,
+        key.code,
+        shown(&write_code_key(key))
+    )
 }
 
 fn print_vehicle_key(rt: &impl Print, key: VehicleKey) -> io::Result<()> {
-    let first = key.first;
-    let second = key.second;
-    let written = write_vehicle_key(key);
-    println!(rt; "{first} {second} {}", shown(&written))
+    println!(rt;
+        "{} {} {}",
+        key.first,
+        key.second,
+        shown(&write_vehicle_key(key))
+    )
+}
+
+fn print_fault(rt: &impl Print, text: &str, fault: FaultRecord) -> io::Result<()> {
+    println!(rt; "'{text}' {} {fault}", fault.coolant.raw)
+}
+
+fn print_vehicle_record(rt: &impl Print, text: &str, vehicle: VehicleRecord) -> io::Result<()> {
+    println!(rt; "'{text}' {vehicle}")
 }
 
 fn print_refusal(rt: &impl Print, text: &str, refusal: TextRefusal) -> io::Result<()> {
-    let number = refusal.number();
-    println!(rt; "'{text}' no {number}")
+    println!(rt; "'{text}' no {}", refusal.number())
 }
 
 // The text that the bytes are.
 fn shown(bytes: &[u8]) -> &str {
-    match from_utf8(bytes) {
-        Ok(text) => text,
-        Err(_) => "no text",
-    }
+    from_utf8(bytes).unwrap_or("no text")
 }
