@@ -1,27 +1,19 @@
 -- What the reader of lines finds of their fields, as the definitions have it.
--- Whether there is a second field is told by the length of the first.
-use Rattle.std.proofs.Common.{◌≡◌, ℕ, suc, ◌≤◌, false, not, eqb, List, [], ◌∷◌, ◌++◌, length, get_or, refl, ap, ◌∙◌, inl, inr, arith}
+-- There is a second field where some byte is a space.
+use Rattle.std.proofs.Common.{◌≡◌, ℕ, ◌≤◌, false, not, eqb, ◌==◌, List, [], ◌∷◌, ◌++◌, length, get_or, refl, ap, inl, inr, arith}
 use Rattle.std.proofs.lemmas.List.{take_rest}
-use Rattle.std.proofs.lemmas.Bool.{and_right, cases_eq, eq-eqb, ne_eqb}
-use Rattle.std.proofs.lemmas.Bool.Decides.{nat_tests}
-use Rattle.std.specs.List.{between}
-use Rattle.text.specs.Fields.{space_at, first_field, one_field}
+use Rattle.std.proofs.lemmas.Bool.{and_right, cases_Bool, eq-eqb}
+use Rattle.std.specs.List.{between, list_any}
+use Rattle.text.specs.Fields.{one_field}
 use Rattle.lines.specs.Commands.{with_fields, command_of}
 
-eqb_suc : (m n : ℕ) → eqb (suc m) (suc n) ≡ eqb m n
-eqb_suc m n = grind (arith, nat_tests)
-
--- a text is one field where its first field is as long as itself
-as_long : (s : List ℕ) → eqb (length (first_field s)) (length s) ≡ one_field s
-unfolding first_field space_at
-as_long [] = refl
-as_long (b ∷ bs) = elim (cases_eq b 32) [
-  | inl e ↦ rw (eq-eqb b 32 e) (ne_eqb 0 (suc (length bs)) (λ z. omega arith))
-  | inr n ↦ rw (ne_eqb b 32 n) (eqb_suc _ _ ∙ as_long bs)
+-- a text is one field where none of its bytes is a space
+pub one_field_any : (s : List ℕ) → one_field s ≡ not (list_any (λ b. b == 32) s)
+one_field_any [] = refl
+one_field_any (b ∷ bs) = elim (cases_Bool (eqb b 32)) [
+  | inl t ↦ rw t refl
+  | inr f ↦ rw f (one_field_any bs)
 ]
-
-pub one_field_length : (s first : List ℕ) → first ≡ first_field s → eqb (length first) (length s) ≡ one_field s
-one_field_length s first e = ap (λ xs. eqb (length xs) (length s)) e ∙ as_long s
 
 -- a line of a letter, a space and fields
 pub command_fields : (line : List ℕ) → 2 ≤ length line → get_or line 1 0 ≡ 32 →

@@ -1,9 +1,9 @@
 -- Cutting an input into lines, and joining them.
 -- A line without byte 10 in front of a byte 10 is the first line of what they begin; so cutting undoes joining, and there is only one way to cut.
-use Rattle.std.proofs.Common.{◌≡◌, ℕ, ◌+◌, ◌<◌, Bool, true, false, cond, List, [], ◌∷◌, ◌++◌, length, get_or, take, drop, sym, refl, ap, ◌∙◌, subst, inl, inr, append_assoc, arith}
-use Rattle.std.proofs.lemmas.List.{take-append-drop, drop_more}
-use Rattle.std.proofs.lemmas.Bool.{cases_eq, ne_eqb, cases_Bool}
-use Rattle.std.specs.List.{flat_map, AllByRecursion}
+use Rattle.std.proofs.Common.{◌≡◌, ℕ, suc, ◌+◌, ◌<◌, ◌≤◌, ◌==◌, eqb, Some, None, Bool, true, false, cond, List, [], ◌∷◌, ◌++◌, length, take, drop, sym, refl, ap, ◌∙◌, subst, inl, inr, append_assoc, arith}
+use Rattle.std.proofs.lemmas.Bool.{cases_eq, cases_lt, lt-ltb, le-ltb, ne_eqb, cases_Bool}
+use native.Mathlib.Numerals.{unary_clauses}
+use Rattle.std.specs.List.{flat_map, position, position_or_len, AllByRecursion}
 use Rattle.page.specs.Texts.{ended}
 use Rattle.lines.specs.Inputs.{prepend, input_lines, closed, OneLine, LinesOf}
 
@@ -19,23 +19,44 @@ unfolding input_lines
 cut_line [] rest h = refl
 cut_line (byte ∷ line) rest h = rw (ne_eqb byte 10 h.0) (ap (prepend byte) (cut_line line rest h.1))
 
--- a last line without its end
-pub cut_last : (byte : ℕ) (line : List ℕ) → OneLine (byte ∷ line) → input_lines (byte ∷ line) ≡ (byte ∷ line) ∷ []
+-- as the code finds them: the first byte 10, or none
+abbrev end_of : List ℕ → ℕ
+end_of = position_or_len (λ b. b == 10)
+
+at_end_of : (s : List ℕ) → end_of s < length s → input_lines s ≡ take (end_of s) s ∷ input_lines (drop (end_of s + 1) s)
 unfolding input_lines
-cut_last byte [] h = rw (ne_eqb byte 10 h.0)
-cut_last byte (next ∷ line) h = rw (ne_eqb byte 10 h.0) (ap (prepend byte) (cut_last next line h.1))
+at_end_of [] h = absurd (omega arith)
+at_end_of (byte ∷ bytes) h = elim (cases_Bool (eqb byte 10)) [
+  | inl t ↦ rw t refl
+  | inr f ↦
+      let more : 1 + end_of bytes ≡ suc (end_of bytes) = omega arith in
+      let rest = simp unary_clauses at (ap (prepend byte) (at_end_of bytes (omega (arith, rw f at h)))) in
+      rw (f, more) (simp unary_clauses rest)
+]
 
--- as the code finds them: a byte 10 with none before it, and no byte 10 at all
-pub first_line : (s line rest : List ℕ) (i : ℕ) → i < length s → OneLine (take i s) → get_or s i 0 ≡ 10 → line ≡ take i s → rest ≡ drop (i + 1) s →
-    input_lines s ≡ line ∷ input_lines rest
-first_line s line rest i h l e f d =
-    let parts : s ≡ take i s ++ 10 ∷ drop (i + 1) s =
-    sym (take-append-drop i s) ∙ ap (λ xs. take i s ++ xs) (drop_more s i 0 h ∙ ap (λ b. b ∷ drop (i + 1) s) e) in
-    ap input_lines parts ∙ cut_line (take i s) (drop (i + 1) s) l ∙ cc (f, d)
+no_end : (s : List ℕ) (byte : ℕ) → length (byte ∷ s) ≤ end_of (byte ∷ s) → input_lines (byte ∷ s) ≡ (byte ∷ s) ∷ []
+unfolding input_lines
+no_end [] byte h = elim (cases_Bool (eqb byte 10)) [
+  | inl t ↦ absurd (omega (arith, rw t at h))
+  | inr f ↦ rw f refl
+]
+no_end (next ∷ s) byte h = elim (cases_Bool (eqb byte 10)) [
+  | inl t ↦ absurd (omega (arith, rw t at h))
+  | inr f ↦ rw f (ap (prepend byte) (no_end s next (omega (arith, rw f at h))))
+]
 
-pub only_line : (s rest : List ℕ) → 0 < length s → OneLine s → length rest ≡ 0 → input_lines s ≡ s ∷ input_lines rest
-only_line [] rest h l e = absurd (omega arith)
-only_line (byte ∷ s) rest h l e = cut_last byte s l ∙ ap (λ ls. (byte ∷ s) ∷ ls) (sym (no_lines rest e))
+pub first_line : (s : List ℕ) (i : ℕ) → position (λ b. b == 10) s ≡ Some i → input_lines s ≡ take i s ∷ input_lines (drop (i + 1) s)
+first_line s i e = elim (cases_lt (end_of s) (length s)) [
+  | inl l ↦ let t = lt-ltb _ _ l in let same = simp t at e in let n : end_of s ≡ i = cc in rw (← n) (at_end_of s l)
+  | inr l ↦ let f = le-ltb _ _ l in let clash = rw f at e in cc
+]
+
+pub only_line : (s : List ℕ) → position (λ b. b == 10) s ≡ None → 0 < length s → input_lines s ≡ s ∷ input_lines []
+only_line [] e h = absurd (omega arith)
+only_line (byte ∷ s) e h = elim (cases_lt (end_of (byte ∷ s)) (length (byte ∷ s))) [
+  | inl l ↦ let t = lt-ltb _ _ l in let clash = rw t at e in cc
+  | inr l ↦ no_end s byte l ∙ ap (λ ls. (byte ∷ s) ∷ ls) (sym (no_lines [] refl))
+]
 
 -- cutting undoes joining
 pub cut_joined : (lines : List (List ℕ)) → AllByRecursion OneLine lines → input_lines (flat_map ended lines) ≡ lines
@@ -94,7 +115,7 @@ whole_end bytes w =
     ∙ ap (λ t. cond t (10 ∷ bytes) (ended (10 ∷ bytes))) (sym (closed_at_end bytes))
 
 whole_other : (byte : ℕ) (bytes : List ℕ) → (byte ≡ 10 → ⊥) → Whole bytes → Whole (byte ∷ bytes)
-whole_other byte [] n w = ap (flat_map ended) (cut_last byte [] (n, tt)) ∙ ap (λ t. cond t (byte ∷ []) (ended (byte ∷ []))) (sym (ne_eqb byte 10 n))
+whole_other byte [] n w = ap (flat_map ended) (at_other byte [] n ∙ ap (prepend byte) (no_lines [] refl)) ∙ ap (λ t. cond t (byte ∷ []) (ended (byte ∷ []))) (sym (ne_eqb byte 10 n))
 whole_other byte (next ∷ s) n w =
     ap (flat_map ended) (at_other byte (next ∷ s) n) ∙ joined_prepend byte (input_lines (next ∷ s)) (some_lines next s)
     ∙ ap (λ xs. byte ∷ xs) w ∙ cond_cons (closed (next ∷ s)) byte (next ∷ s) (ended (next ∷ s))

@@ -1,7 +1,7 @@
 -- Which command a line stands for, read from left to right; none where the line does not follow its form.
 -- CommandTexts has the lines of the commands, and a line stands for a command just where it is that command's line.
 use Rattle.std.specs.Prelude.{ℕ, Bool, cond, List, [], ◌∷◌, Some, None, codes, Option, ◌==◌, slice_index}
-use Rattle.std.specs.Option.{option_map}
+use Rattle.std.specs.Option.{option_map, option_zip}
 use Rattle.keys.specs.declared.code.CodeKey.{CodeKey}
 use Rattle.text.specs.Codes.{code_key_of}
 use Rattle.text.specs.Decimals.{decimal_of}
@@ -10,19 +10,13 @@ use Rattle.text.specs.Records.{fault_of}
 use Rattle.lines.specs.declared.command.Command.{Command}
 use Rattle.lines.specs.declared.command.Command.TheVariants.{BeginReport, BeginJob, End, Read, Walk, Look, Put, Remove, Commit, Abort, Age}
 
--- two values, where both are there
-abbrev pub both : {X Y : Type 0} → Option X → Option Y → Option (X × Y)
-both None y = None
-both (Some x) None = None
-both (Some x) (Some y) = Some (x, y)
-
 -- a decimal number of 32 bits: a ticket's number or a limit
 abbrev pub u32_of : List ℕ → Option ℕ
 u32_of s = decimal_of 4294967295 s
 
 -- a ticket's number and a key, in two fields
 abbrev pub ticket_key_of : List ℕ → Option (ℕ × CodeKey)
-ticket_key_of s = both (u32_of (first_field s)) (code_key_of (later_fields s))
+ticket_key_of s = option_zip (u32_of (first_field s)) (code_key_of (later_fields s))
 
 -- the fields of a walk: a ticket's number, and a key where there is a second field
 abbrev pub walk_of : List ℕ → Option Command
@@ -34,7 +28,7 @@ walk_of s =
 abbrev pub put_of : List ℕ → Option Command
 put_of s =
     option_map (λ p. Put p.0 p.1.0 p.1.1)
-    (both (u32_of (first_field s)) (both (code_key_of (first_field (later_fields s))) (fault_of (later_fields (later_fields s)))))
+    (option_zip (u32_of (first_field s)) (option_zip (code_key_of (first_field (later_fields s))) (fault_of (later_fields (later_fields s)))))
 
 -- whether a byte is the one that a letter is written as
 abbrev pub is : ℕ → List ℕ → Bool

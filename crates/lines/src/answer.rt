@@ -4,35 +4,29 @@ ghost use Rattle.lines.specs.Answers.{answer_text};
 
 use crate::refusal::RefusalLine;
 use keys::CodeKey;
-use ledger::Answer;
-use page::{Mark, PageRefusal, Piece};
+use ledger::{Answer, Granted};
+use page::{OpenLine, PageRefusal, Piece};
 use text::FaultRecord;
 
-// An answer that is to be written as a line.
+// An answer that is to be written as a line. Kept as a type of this crate, since a trait and a type that are both another crate's take no impl here.
 #[derive(Clone, Copy)]
-pub struct AnswerLine {
-    pub answer: Answer<CodeKey, FaultRecord>,
-}
+pub struct AnswerLine(pub Answer<CodeKey, FaultRecord>);
 
 impl Piece for AnswerLine {
-    ghost text = { λ line. answer_text line.answer };
+    ghost text = { λ line. answer_text line.0 };
 
-    fn put(self, bytes: &mut [u8], mark: &mut Mark) -> Result<(), PageRefusal> {
-        match self.answer {
-            Answer::Report { ticket, stamp } => (*b"R", (ticket.number as u64, stamp as u64)).put(
-                bytes, mark,
-            ),
-            Answer::Job { ticket } => (*b"J", ticket.number as u64).put(bytes, mark),
-            Answer::Record(None) => (*b"none").put(bytes, mark),
-            Answer::Record(Some(fault)) => (*b"rec", fault).put(bytes, mark),
-            Answer::Next(None) => (*b"none").put(bytes, mark),
-            Answer::Next(Some(key)) => (*b"N", key).put(bytes, mark),
-            Answer::Done => (*b"ok").put(bytes, mark),
-            Answer::Stamp(stamp) => (*b"C", stamp as u64).put(bytes, mark),
-            Answer::Aged { looked, freed } => (*b"S", (looked as u64, freed as u64)).put(
-                bytes, mark,
-            ),
-            Answer::Refused(refusal) => RefusalLine::of_store(refusal).put(bytes, mark),
+    fn put(self, line: &mut OpenLine) -> Result<(), PageRefusal> {
+        match self.0 {
+            Ok(Granted::Report { ticket, stamp }) => (*b"R", (ticket.number, stamp)).put(line),
+            Ok(Granted::Job { ticket }) => (*b"J", ticket.number).put(line),
+            Ok(Granted::Record(None)) => (*b"none").put(line),
+            Ok(Granted::Record(Some(fault))) => (*b"rec", fault).put(line),
+            Ok(Granted::Next(None)) => (*b"none").put(line),
+            Ok(Granted::Next(Some(key))) => (*b"N", key).put(line),
+            Ok(Granted::Done) => (*b"ok").put(line),
+            Ok(Granted::Stamp(stamp)) => (*b"C", stamp).put(line),
+            Ok(Granted::Aged { looked, freed }) => (*b"S", (looked, freed)).put(line),
+            Err(refusal) => RefusalLine(refusal).put(line),
         }
     }
 }

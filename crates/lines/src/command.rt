@@ -3,7 +3,7 @@
 ghost use Rattle.lines.specs.CommandTexts.{command_text};
 
 use keys::CodeKey;
-use page::{Mark, PageRefusal, Piece};
+use page::{OpenLine, PageRefusal, Piece};
 use text::FaultRecord;
 
 #[derive(Clone, Copy)]
@@ -59,28 +59,26 @@ pub enum Command {
 impl Piece for Command {
     ghost text = { command_text };
 
-    fn put(self, bytes: &mut [u8], mark: &mut Mark) -> Result<(), PageRefusal> {
+    fn put(self, line: &mut OpenLine) -> Result<(), PageRefusal> {
         match self {
-            Command::BeginReport => (*b"R").put(bytes, mark),
-            Command::BeginJob => (*b"J").put(bytes, mark),
-            Command::End { ticket } => (*b"E", ticket as u64).put(bytes, mark),
-            Command::Read { ticket, key } => (*b"G", (ticket as u64, key)).put(bytes, mark),
+            Command::BeginReport => (*b"R").put(line),
+            Command::BeginJob => (*b"J").put(line),
+            Command::End { ticket } => (*b"E", ticket).put(line),
+            Command::Read { ticket, key } => (*b"G", (ticket, key)).put(line),
             Command::Walk {
                 ticket,
                 after: None,
-            } => (*b"N", ticket as u64).put(bytes, mark),
+            } => (*b"N", ticket).put(line),
             Command::Walk {
                 ticket,
                 after: Some(key),
-            } => (*b"N", (ticket as u64, key)).put(bytes, mark),
-            Command::Look { ticket, key } => (*b"L", (ticket as u64, key)).put(bytes, mark),
-            Command::Put { ticket, key, fault } => (*b"P", (ticket as u64, (key, fault))).put(
-                bytes, mark,
-            ),
-            Command::Remove { ticket, key } => (*b"D", (ticket as u64, key)).put(bytes, mark),
-            Command::Commit { ticket } => (*b"C", ticket as u64).put(bytes, mark),
-            Command::Abort { ticket } => (*b"A", ticket as u64).put(bytes, mark),
-            Command::Age { limit } => (*b"S", limit as u64).put(bytes, mark),
+            } => (*b"N", (ticket, key)).put(line),
+            Command::Look { ticket, key } => (*b"L", (ticket, key)).put(line),
+            Command::Put { ticket, key, fault } => (*b"P", (ticket, (key, fault))).put(line),
+            Command::Remove { ticket, key } => (*b"D", (ticket, key)).put(line),
+            Command::Commit { ticket } => (*b"C", ticket).put(line),
+            Command::Abort { ticket } => (*b"A", ticket).put(line),
+            Command::Age { limit } => (*b"S", limit).put(line),
         }
     }
 }

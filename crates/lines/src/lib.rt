@@ -12,6 +12,5 @@ mod split;
 pub use answer::AnswerLine;
 pub use command::Command;
 pub use echo::{MAX_INPUT, echo_input};
-pub use read::read_command;
 pub use refusal::RefusalLine;
 pub use split::InputLines;

@@ -1,11 +1,12 @@
 // An input cut into its lines, one after the other.
 // Relies on nothing of the input: any bytes have lines, and the lines give the bytes again.
-ghost use Rattle.std.specs.Prelude.{◌≡◌, ℕ, ◌<◌, List, ◌∷◌, length};
+ghost use Rattle.std.specs.Prelude.{◌≡◌, ℕ, ◌<◌, ◌==◌, List, ◌∷◌, length};
 ghost use Rattle.lines.specs.Inputs.{LinesOf, TakesLine, input_lines};
 ghost use Rattle.std.specs.Option.{option_map};
 ghost use Rattle.std.specs.Iterator.{at_most};
+ghost use Rattle.std.specs.List.{position};
 
-// The lines of an input that are still to come.
+// The lines of an input that are still to come. Kept beside the library's split_inclusive, whose type holds a closure and whose lines end in their byte 10.
 #[derive(Clone, Copy)]
 pub struct InputLines<'a> {
     rest: &'a [u8],
@@ -29,8 +30,9 @@ impl<'a> Iterator for InputLines<'a> {
 
     ghost remaining = { λ lines. at_most (length lines.rest.now) };
 
+    #[tactic(auto, using(crate::proofs::Splitting::no_lines))]
     fn next(&mut self) -> Option<&'a [u8]> {
-        if self.rest.len() == 0 {
+        if self.rest.is_empty() {
             return None;
         }
         let (line, rest) = split_line(self.rest);
@@ -39,15 +41,21 @@ impl<'a> Iterator for InputLines<'a> {
     }
 }
 
+// The place of the first line's end, or none.
+fn find_end(s: &[u8]) -> Option<usize>
+    ensures answer { result ≡ position (λ b. b == 10) s.now }
+{
+    s.iter().position(|b| *b == b'\n')
+}
+
 // The first line, and what stands behind it and its end.
+#[tactic(auto, using(crate::proofs::Splitting::first_line, crate::proofs::Splitting::only_line, std::proofs::lemmas::List::take_rest))]
 fn split_line(s: &[u8]) -> (&[u8], &[u8])
     ensures lines { 0 < length s.now → input_lines s.now ≡ result.0.now ∷ input_lines result.1.now }
     ensures shorter { 0 < length s.now → length result.1.now < length s.now }
 {
-    for (i, b) in s.iter().enumerate() {
-        if *b == b'\n' {
-            return (&s[0..i], &s[i + 1..]);
-        }
+    match find_end(s) {
+        Some(end) => (&s[..end], &s[end + 1..]),
+        None => (s, &[]),
     }
-    (s, &s[s.len()..])
 }

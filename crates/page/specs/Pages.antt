@@ -3,60 +3,57 @@
 use Rattle.std.specs.Prelude.{◌≡◌, ℕ, ◌+◌, ◌-◌, ◌<◌, ◌≤◌, Bool, cond, List, [], ◌∷◌, ◌++◌, length, take, Ok, Err, Result, nat_le}
 use Rattle.std.specs.List.{flat_map}
 use Rattle.keys.specs.Refusals.{Code, plain, told}
-use Rattle.page.specs.declared.mark.Mark.{Mark}
-use Rattle.page.specs.declared.mark.PageRefusal.{PageRefusal}
+use Rattle.page.specs.declared.refusal.PageRefusal.{PageRefusal}
+use Rattle.page.specs.declared.line.OpenLine.{OpenLine}
 use Rattle.page.specs.declared.page.Page.{Page}
 use Rattle.page.specs.Refusals.{code}
 use Rattle.page.specs.Texts.{ended}
 
--- bytes, and how far they are filled
-pub record Filled : Type 0 where
-  pub bytes : List ℕ
-  pub at : ℕ
+-- the page that a line is written on
+abbrev pub page_of : OpenLine → Page
+page_of line = record { bytes = line.bytes; mark = line.mark.now }
 
--- bytes with a mark
-abbrev pub filled : List ℕ → Mark → Filled
-filled bytes mark = record { bytes = bytes; at = mark.at }
-
--- a page's bytes with its mark
-abbrev pub of_page : Page → Filled
-of_page p = filled p.bytes.now p.mark
+-- a line is still under its guard: over the same mark, which goes back to the same place
+abbrev pub SameGuard : OpenLine → OpenLine → Type 0
+SameGuard before after = (after.mark.ghost_name ≡ before.mark.ghost_name) × (after.back ≡ before.back)
 
 -- what stands below the mark
-abbrev pub standing : Filled → List ℕ
-standing f = take f.at f.bytes
+abbrev pub standing : Page → List ℕ
+standing p = take p.mark.at p.bytes.now
 
 -- whether a text fits whole at the mark
-abbrev pub fits : Filled → List ℕ → Bool
-fits f text = nat_le (f.at + length text) (length f.bytes)
+abbrev pub fits : Page → List ℕ → Bool
+fits p text = nat_le (p.mark.at + length text) (length p.bytes.now)
 
 -- bytes from the mark on
-abbrev pub room : Filled → ℕ
-room f = length f.bytes - f.at
+abbrev pub room : Page → ℕ
+room p = length p.bytes.now - p.mark.at
 
--- the text stands behind what stood there before
-pub record Grown (before : Filled) (text : List ℕ) (after : Filled) : Type 0 where
+-- the text stands behind what stood there before, and the page is still over the same bytes
+pub record Grown (before : Page) (text : List ℕ) (after : Page) : Type 0 where
   pub lines : standing after ≡ standing before ++ text
-  pub mark : after.at ≡ before.at + length text
-  pub size : length after.bytes ≡ length before.bytes
+  pub mark : after.mark.at ≡ before.mark.at + length text
+  pub size : length after.bytes.now ≡ length before.bytes.now
+  pub memory : after.bytes.ghost_name ≡ before.bytes.ghost_name
 
 -- a line that fits is granted, any other gets 13
-abbrev pub fit_answer : Filled → List ℕ → Result (Unit {0}) Code
-fit_answer f line = cond (fits f line) (Ok tt) (Err (plain 13))
+abbrev pub fit_answer : Page → List ℕ → Result (Unit {0}) Code
+fit_answer p line = cond (fits p line) (Ok tt) (Err (plain 13))
 
 -- a line that fits whole, and nothing of any other
-abbrev pub fitted : Filled → List ℕ → List ℕ
-fitted f line = cond (fits f line) line []
+abbrev pub fitted : Page → List ℕ → List ℕ
+fitted p line = cond (fits p line) line []
 
 -- a text was put at the mark; or it does not fit, and what stood below the mark is as it was, wherever the mark is now
-unfoldable pub Wrote : Filled → List ℕ → Filled → Result (Unit {0}) PageRefusal → Type 0
-Wrote before text after (Ok u) = (before.at + length text ≤ length before.bytes) × Grown before text after
+unfoldable pub Wrote : Page → List ℕ → Page → Result (Unit {0}) PageRefusal → Type 0
+Wrote before text after (Ok u) = (before.mark.at + length text ≤ length before.bytes.now) × Grown before text after
 Wrote before text after (Err e) =
-    (length before.bytes < before.at + length text) × (code e ≡ plain 13)
-    × (take before.at after.bytes ≡ standing before) × (length after.bytes ≡ length before.bytes)
+    (length before.bytes.now < before.mark.at + length text) × (code e ≡ plain 13)
+    × (take before.mark.at after.bytes.now ≡ standing before) × (length after.bytes.now ≡ length before.bytes.now)
+    × (after.bytes.ghost_name ≡ before.bytes.ghost_name)
 
 -- a line was written whole; or it does not fit, and all is as it was
-pub record Lined (before : Filled) (line : List ℕ) (after : Filled) (r : Result (Unit {0}) PageRefusal) : Type 0 where
+pub record Lined (before : Page) (line : List ℕ) (after : Page) (r : Result (Unit {0}) PageRefusal) : Type 0 where
   pub answer : told code r ≡ fit_answer before line
   pub grown : Grown before (fitted before line) after
 
@@ -70,6 +67,6 @@ abbrev pub fitting_answer : ℕ → List (List ℕ) → Result (Unit {0}) Code
 fitting_answer room lines = cond (nat_le (length (flat_map ended lines)) room) (Ok tt) (Err (plain 13))
 
 -- lines were written in order, as many as fit
-pub record Printed (before : Filled) (lines : List (List ℕ)) (after : Filled) (r : Result (Unit {0}) PageRefusal) : Type 0 where
+pub record Printed (before : Page) (lines : List (List ℕ)) (after : Page) (r : Result (Unit {0}) PageRefusal) : Type 0 where
   pub answer : told code r ≡ fitting_answer (room before) lines
   pub grown : Grown before (fitting (room before) lines) after

@@ -3,11 +3,13 @@
 #![tactic(auto)]
 
 mod line;
-mod mark;
+mod number;
 mod page;
 mod piece;
+mod refusal;
 mod value;
 
-pub use mark::{Mark, PageRefusal};
-pub use page::Page;
+pub use line::OpenLine;
+pub use page::{Mark, Page};
 pub use piece::{Piece, Then};
+pub use refusal::PageRefusal;

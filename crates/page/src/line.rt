@@ -1,49 +1,81 @@
 // A line at the mark, under a guard: written whole, or the mark goes back to the line's start on every way out.
-// Relies on pieces alone for what the line says.
-ghost use Rattle.page.specs.Pages.{Lined, filled};
+// Relies on pieces alone for what the line says, and on no bound: where a text does not fit, or the mark lies past the bytes, it is refused.
+ghost use Rattle.keys.specs.Refusals.{told};
+ghost use Rattle.page.specs.Pages.{Grown, SameGuard, Wrote, fit_answer, fitted, page_of};
+ghost use Rattle.page.specs.Refusals.{code};
 ghost use Rattle.page.specs.Texts.{ended};
-ghost use Rattle.std.specs.Prelude.{◌≡◌, if◌then◌else◌};
+ghost use Rattle.std.specs.Option.{unwrap_or};
+ghost use Rattle.std.specs.Prelude.{◌≡◌, ◌+◌, if◌then◌else◌, length, nat_le};
 
-use crate::mark::{Mark, PageRefusal};
+use crate::page::{Mark, Page};
 use crate::piece::{Piece, Then};
+use crate::refusal::PageRefusal;
 
-// A line that is being written. When it is let go, its mark goes back to the line's start, unless the line was completed.
-struct OpenLine<'a> {
+// A line that is being written, over the bytes and the mark of its page. When it is let go, the mark goes back to the line's start, unless the line was completed.
+pub struct OpenLine<'a> {
+    bytes: &'a mut [u8],
     mark: &'a mut Mark,
-    start: usize,
-    complete: bool,
+    // where the mark goes back to; none once the line is complete
+    back: Option<Mark>,
 }
 
 impl Drop for OpenLine<'_> {
     fn drop(self)
-        ensures mark { self.exit.0.now.at ≡ (if self.entry.complete then self.entry.mark.now.at else self.entry.start) }
+        ensures mark { self.exit.1.0.now ≡ unwrap_or self.entry.back self.entry.mark.now }
+        ensures bytes { self.exit.0.now ≡ self.entry.bytes.now }
     {
-        if !self.complete {
-            self.mark.at = self.start;
-        }
         let OpenLine {
-            mark: _,
-            start: _,
-            complete: _,
+            bytes: _,
+            mark,
+            back,
         } = self;
+        if let Some(start) = back {
+            *mark = start;
+        }
     }
 }
 
-// Writes a line at the mark, under a guard.
-pub fn line_at<P: Piece>(bytes: &mut [u8], mark: &mut Mark, piece: P) -> Result<(), PageRefusal>
-    ensures lined { Lined (filled bytes.old mark.old) (ended (P.Piece.text piece)) (filled bytes.new mark.new) result }
-{
-    let start = mark.at;
-    let mut open = OpenLine {
-        mark,
-        start,
-        complete: false,
-    };
-    let line = Then {
-        first: piece,
-        second: *b"\n",
-    };
-    line.put(bytes, open.mark)?;
-    open.complete = true;
-    Ok(())
+impl OpenLine<'_> {
+    // Where so many bytes at the mark would end; none where they do not fit.
+    fn end_of(&self, size: usize) -> Option<usize>
+        ensures answer { result ≡ (if nat_le (self.now.mark.now.at + size) (length self.now.bytes.now) then Some (self.now.mark.now.at + size) else None) }
+    {
+        self.mark
+            .at
+            .checked_add(size)
+            .filter(|end| *end <= self.bytes.len())
+    }
+
+    // Puts bytes at the mark and moves the mark behind them.
+    #[tactic(auto, using(std::proofs::lemmas::Slice::overwrites), unfolding(crate::specs::Pages::Wrote))]
+    pub(crate) fn put_bytes(&mut self, text: &[u8]) -> Result<(), PageRefusal>
+        ensures wrote { Wrote (page_of self.old) text.now (page_of self.new) result }
+        ensures guard { SameGuard self.old self.new }
+    {
+        let end = self.end_of(text.len()).ok_or(PageRefusal::DoesNotFit)?;
+        self.bytes[self.mark.at..end].copy_from_slice(text);
+        self.mark.at = end;
+        Ok(())
+    }
+}
+
+impl Page<'_> {
+    // Writes a line, whole or not at all.
+    #[tactic(auto, using(std::proofs::lemmas::Bool::Decides::nat_tests, std::proofs::lemmas::Result::err_from_is_err_and), unfolding(crate::specs::Pages::Wrote))]
+    pub fn write_line<P: Piece>(&mut self, piece: P) -> Result<(), PageRefusal>
+        ensures answer { told code result ≡ fit_answer self.old (ended (P.Piece.text piece)) }
+        ensures after { Grown self.old (fitted self.old (ended (P.Piece.text piece))) self.new }
+    {
+        let start = self.mark;
+        // borrowed ahead of the bytes: borrowed beside them, it is not known what the guard leaves of it
+        let mark = &mut self.mark;
+        let mut line = OpenLine {
+            bytes: &mut *self.bytes,
+            mark,
+            back: Some(start),
+        };
+        Then(piece, *b"\n").put(&mut line)?;
+        line.back = None;
+        Ok(())
+    }
 }

@@ -1,16 +1,15 @@
 // A page: bytes of the caller's with a mark, below which whole lines stand.
-// A line is written whole, or the page is as before, but for bytes behind the mark. `memory` says that it is still over the same bytes.
-ghost use Rattle.keys.specs.Refusals.{told};
-ghost use Rattle.page.specs.Pages.{Grown, of_page, standing, fitted, fit_answer};
-ghost use Rattle.page.specs.Refusals.{code};
-ghost use Rattle.page.specs.Texts.{ended};
+// Relies on no bound: the mark may lie past the bytes. `memory` says that a page is over the caller's bytes.
+ghost use Rattle.page.specs.Pages.{standing};
 ghost use Rattle.std.specs.Prelude.{◌≡◌};
 
-use crate::line::line_at;
-use crate::mark::{Mark, PageRefusal};
-use crate::piece::Piece;
+// How far a page is filled.
+#[derive(Clone, Copy)]
+pub struct Mark {
+    pub at: usize,
+}
 
-// Bytes, and how far they are filled.
+// Bytes, and how far they are filled. Kept beside the standard library's cursor, which does not promise that it stays over the same bytes.
 #[derive(Drop)]
 pub struct Page<'a> {
     pub bytes: &'a mut [u8],
@@ -32,25 +31,8 @@ impl<'a> Page<'a> {
 
     // What stands on the page.
     pub fn lines(&self) -> &[u8]
-        ensures answer { result.now ≡ standing (of_page self.now) }
+        ensures answer { result.now ≡ standing self.now }
     {
-        let end = self.mark.at;
-        if end < self.bytes.len() {
-            &self.bytes[0..end]
-        } else {
-            self.bytes
-        }
-    }
-
-    // Writes a line, whole or not at all.
-    pub fn write_line<P: Piece>(&mut self, piece: P) -> Result<(), PageRefusal>
-        ensures answer { told code result ≡ fit_answer (of_page self.old) (ended (P.Piece.text piece)) }
-        ensures memory { self.new.bytes.ghost_name ≡ self.old.bytes.ghost_name }
-        ensures after { Grown (of_page self.old) (fitted (of_page self.old) (ended (P.Piece.text piece))) (of_page self.new) }
-    {
-        let mut mark = self.mark;
-        let answer = line_at(self.bytes, &mut mark, piece);
-        self.mark = mark;
-        answer
+        self.bytes.get(..self.mark.at).unwrap_or(self.bytes)
     }
 }

@@ -1,4 +1,4 @@
-use Rattle.page.proofs.piece.+put_number.Given as goal
+use Rattle.page.proofs.number.+put_number.Given as goal
 
 abbrev pub decreases-put_number : goal.decreases-put_number
 decreases-put_number l = l.n
