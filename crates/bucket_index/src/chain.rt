@@ -45,7 +45,7 @@ fn cell_at(cells: &[Cell], link: Link) -> Option<Cell>
 }
 
 // The number of the first cell along the chain from the link that is wanted, or none.
-pub fn seek<F: Fn(Cell) -> bool>(cells: &[Cell], link: Link, wanted: F) -> Link
+pub(crate) fn seek<F: Fn(Cell) -> bool>(cells: &[Cell], link: Link, wanted: F) -> Link
     requires { F.IsAlwaysCallable wanted }
     ensures answer { Sought (F.post wanted) cells.now link result }
 {

@@ -1,5 +1,5 @@
 // The memory of the bucket index: the cell of number n lies at place n, and each bucket has a chain of the cells whose keys belong to it.
-// Every step here is safe and ends on any memory; what makes a memory sound is an invariant of the index above.
+// The steps of its calls, each on any memory; what makes a memory sound is an invariant of the index above.
 ghost use Rattle.bucket_index.specs.Limits.{buckets, capacity};
 ghost use Rattle.std.specs.Prelude.{◌≡◌, length};
 
@@ -13,7 +13,7 @@ pub const CAPACITY: usize = 512;
 pub const BUCKETS: usize = 64;
 
 #[derive(Drop)]
-pub struct Memory {
+pub(crate) struct Memory {
     // for each bucket the first cell of its chain
     heads: [Link; BUCKETS],
     // for each number its cell; links are numbers and no boxes, since the memory is fixed and nothing is allocated
@@ -31,7 +31,7 @@ impl Memory {
     ghost use Rattle.std.specs.Prelude.{◌+◌, ◌-◌, ◌<◌, replicate, Some, None, IfSome, slice_index_or, slice_set};
 
     // The memory of an index without a key.
-    pub fn blank() -> Memory
+    pub(crate) fn blank() -> Memory
         ensures heads { result.heads ≡ replicate buckets None }
         ensures cells { result.cells ≡ replicate capacity free_cell }
         ensures count { result.count ≡ 0 }
@@ -44,7 +44,7 @@ impl Memory {
     }
 
     // How many cells have a key.
-    pub fn count(&self) -> usize
+    pub(crate) fn count(&self) -> usize
         ensures answer { result ≡ self.now.count }
     {
         self.count
@@ -58,14 +58,14 @@ impl Memory {
     }
 
     // The cell of the number; none past the capacity.
-    pub fn cell(&self, number: usize) -> Option<Cell>
+    pub(crate) fn cell(&self, number: usize) -> Option<Cell>
         ensures answer { result ≡ slice_get self.now.cells number }
     {
         self.cells.get(number).copied()
     }
 
     // The number of the first cell along the chain of the key's bucket that is wanted, or none.
-    pub fn seek<F: Fn(Cell) -> bool>(&self, key: CodeKey, wanted: F) -> Link
+    pub(crate) fn seek<F: Fn(Cell) -> bool>(&self, key: CodeKey, wanted: F) -> Link
         requires { F.IsAlwaysCallable wanted }
         ensures answer { Sought (F.post wanted) self.now.cells (slice_index_or self.now.heads (bucket_of key) None) result }
     {
@@ -73,7 +73,7 @@ impl Memory {
     }
 
     // Puts the cell of the number, with the key, before the others of the key's bucket.
-    pub fn link(&mut self, key: CodeKey, number: usize)
+    pub(crate) fn link(&mut self, key: CodeKey, number: usize)
         requires within { number < capacity }
         requires room { self.old.count < capacity }
         ensures heads { self.new.heads ≡ slice_set self.old.heads (bucket_of key) (Some number) }
@@ -86,13 +86,13 @@ impl Memory {
             key: Some(key),
             next,
         };
-        // a cast, proved exact: a conversion that may fail would read as if a number could have no link
+        // a cast, since the number is below the capacity
         self.heads[bucket] = Some(number as u16);
         self.count += 1;
     }
 
     // Lets the link that led to a cell of the key's bucket lead to the next one: the link of the previous cell, or the head.
-    pub fn unlink(&mut self, key: CodeKey, previous: Link, next: Link)
+    pub(crate) fn unlink(&mut self, key: CodeKey, previous: Link, next: Link)
         requires { IfSome previous (λ number. number < capacity) }
         ensures heads { self.new.heads ≡ unlinked_heads previous self.old.heads (bucket_of key) next }
         ensures cells { self.new.cells ≡ unlinked_cells previous self.old.cells next }
@@ -105,7 +105,7 @@ impl Memory {
     }
 
     // Frees the cell of the number.
-    pub fn free(&mut self, number: usize)
+    pub(crate) fn free(&mut self, number: usize)
         requires within { number < capacity }
         requires counted { 0 < self.old.count }
         ensures heads { self.new.heads ≡ self.old.heads }

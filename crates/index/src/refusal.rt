@@ -47,6 +47,8 @@ impl Reason for DiscardRefusal {
     }
 
     fn value(self) -> Option<u32> {
-        None
+        match self {
+            DiscardRefusal::NumberFree => None,
+        }
     }
 }

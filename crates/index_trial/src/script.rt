@@ -1,11 +1,12 @@
 // The lists of calls that the indexes are driven through: made by hand for discards of every kind and for a full index,
 // and a fixed pseudo-random one.
 use crate::call::Call;
+use bucket_index::CAPACITY;
 use keys::CodeKey;
 use std::alloc::{AllocError, Global};
 
 // How many keys a full index has.
-const FULL: u16 = 512;
+const FULL: u16 = CAPACITY as u16;
 
 // The kinds of lists. An enum and no closures, since the name of a kind is printed beside what came of it.
 #[derive(Clone, Copy, Debug)]

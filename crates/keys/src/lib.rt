@@ -1,4 +1,4 @@
-// Key kinds: what the store asks of one, and the two of the garage tablet.
+// Key kinds: what the store asks of one, and the two of the garage tablet. Also what every refusal tells.
 // Stands on nothing but the standard library; every other crate stands on it.
 #![tactic(auto)]
 

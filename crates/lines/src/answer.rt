@@ -8,7 +8,7 @@ use ledger::{Answer, Granted};
 use page::{OpenLine, PageRefusal, Piece};
 use text::FaultRecord;
 
-// An answer that is to be written as a line. Kept as a type of this crate, since a trait and a type that are both another crate's take no impl here.
+// An answer that is to be written as a line: a type of this crate, since a trait and a type of other crates cannot be given an impl here.
 #[derive(Clone, Copy)]
 pub struct AnswerLine(pub Answer<CodeKey, FaultRecord>);
 

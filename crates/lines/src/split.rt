@@ -6,7 +6,7 @@ ghost use Rattle.std.specs.Option.{option_map};
 ghost use Rattle.std.specs.Iterator.{at_most};
 ghost use Rattle.std.specs.List.{position};
 
-// The lines of an input that are still to come. Kept beside the library's split_inclusive, whose type holds a closure and whose lines end in their byte 10.
+// The lines of an input that are still to come. A type of its own and not the library's split_inclusive, whose type holds a closure and whose parts end in their byte 10.
 #[derive(Clone, Copy)]
 pub struct InputLines<'a> {
     rest: &'a [u8],

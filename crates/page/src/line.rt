@@ -67,7 +67,7 @@ impl Page<'_> {
         ensures after { Grown self.old (fitted self.old (ended (P.Piece.text piece))) self.new }
     {
         let start = self.mark;
-        // borrowed ahead of the bytes: borrowed beside them, it is not known what the guard leaves of it
+        // the mark first: borrowed after the bytes, it is not known what the guard leaves of it
         let mark = &mut self.mark;
         let mut line = OpenLine {
             bytes: &mut *self.bytes,

@@ -7,7 +7,7 @@ use crate::line::OpenLine;
 use crate::piece::{Piece, Then};
 use crate::refusal::PageRefusal;
 
-// Kept as one impl for each type: one for every type that turns into u64 conflicts with those for bytes, pairs and records.
+// One impl for each type: one for every type that turns into u64 would conflict with those for bytes, pairs and records.
 impl Piece for u8 {
     ghost text = { decimal };
 

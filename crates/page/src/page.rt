@@ -9,7 +9,7 @@ pub struct Mark {
     pub at: usize,
 }
 
-// Bytes, and how far they are filled. Kept beside the standard library's cursor, which does not promise that it stays over the same bytes.
+// Bytes, and how far they are filled. A type of its own and not the library's cursor, which does not promise that it stays over the same bytes.
 #[derive(Drop)]
 pub struct Page<'a> {
     pub bytes: &'a mut [u8],

@@ -7,7 +7,7 @@ ghost use Rattle.page.specs.Texts.{spaced};
 use crate::line::OpenLine;
 use crate::refusal::PageRefusal;
 
-// Kept beside the standard library's formatting and writing: these promise nothing where they fail, and a line is refused just where it does not fit.
+// A trait of its own and not the library's formatting and writing: these promise nothing where they fail, and a line is refused just where it does not fit.
 pub trait Piece: Copy {
     // the bytes that stand for the value
     ghost text: { Self → List ℕ };

@@ -1,6 +1,6 @@
 // Keys and records as pieces: their texts, as the crate of texts defines them.
 // A trait and its impl for another crate's type have to stand in one crate, so these stand here.
-// Kept beside the `Display` of records, which a page cannot write by, since a line is refused just where it does not fit, and formatting that fails says nothing of that.
+// They do not write by the `Display` of records: a line is refused just where it does not fit, and formatting that fails says nothing of that.
 ghost use Rattle.text.specs.Codes.{code_key_text};
 ghost use Rattle.text.specs.Coolants.{coolant_text};
 ghost use Rattle.text.specs.Records.{fault_text};

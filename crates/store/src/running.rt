@@ -20,7 +20,7 @@ pub fn run_calls<I: Index, R: Copy>(
     ensures rest { drop result answers.new ≡ drop result answers.old }
 {
     let count = calls.len().min(answers.len());
-    // Kept by index: zipped with `iter_mut` no proof closes, since nothing is known of what is written through a zip's items.
+    // By index: zipped with `iter_mut` no proof closes, since nothing is known of what is written through a zip's items.
     for (i, call) in calls[..count].iter().enumerate() {
         answers[i] = ask(store, shelf, *call);
     }

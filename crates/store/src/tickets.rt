@@ -1,5 +1,5 @@
 // Tickets of open reports and jobs, for programs: plain numbers that nobody else can make, copy or let go.
-// A ticket may be dropped only when it is spent, and has the number 0, which no open ticket has; ending the report or the job spends it.
+// A ticket may be dropped only where its number is 0, which no open ticket has; ending the report or the job takes it apart.
 ghost use Rattle.store.specs.Tickets.{back};
 ghost use Rattle.std.specs.Prelude.{◌≡◌};
 
@@ -23,13 +23,14 @@ pub type ReportTicket = Ticket<OfReport>;
 pub type JobTicket = Ticket<OfJob>;
 
 // A refusal to end, commit or abort, which gives the ticket back.
+#[derive(Drop)]
 pub struct GivenBack<Kind> {
     pub why: Refusal,
     pub ticket: Ticket<Kind>,
 }
 
 impl<Kind> Drop for Ticket<Kind> {
-    // The number 0 is kept as the mark of a spent ticket: by a rule of the project any other ticket may not be let go.
+    // The number 0 is the mark of a spent ticket: by a rule of the project any other ticket may not be let go.
     fn drop(self)
         requires { self.id.number ≡ 0 }
     {

@@ -111,7 +111,7 @@ fn compare(rt: &HostRuntime, nodes: &mut [Node<CodeKey>], setting: Setting) -> a
     };
     let over_buckets = answers_over(rt, BucketIndex::new(), setting, seldom)?;
     let over_tree = answers_over(rt, SearchTree::new(nodes), setting, often)?;
-    let mut tally = Tally::new();
+    let mut tally = Tally::default();
     for (a, b) in over_buckets.iter().zip(over_tree.iter()) {
         tally.count(*a);
         if *a != *b {

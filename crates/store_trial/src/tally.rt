@@ -5,7 +5,7 @@ use ledger::{Answer, Granted};
 // The least number of a refusal to a call.
 const FIRST_REFUSAL: usize = 3;
 
-#[derive(Clone, Copy, Debug)]
+#[derive(Clone, Copy, Default, Debug)]
 pub struct Tally {
     reports: u32,
     jobs: u32,
@@ -20,19 +20,6 @@ pub struct Tally {
 }
 
 impl Tally {
-    pub fn new() -> Tally {
-        Tally {
-            reports: 0,
-            jobs: 0,
-            records: 0,
-            nothing: 0,
-            done: 0,
-            commits: 0,
-            refused: [0; 9],
-            differences: 0,
-        }
-    }
-
     pub fn count(&mut self, answer: Answer<CodeKey, u32>) {
         match answer {
             Ok(Granted::Report { .. }) => add_one(&mut self.reports),

@@ -98,7 +98,7 @@ impl FromText for CodeKey {
     }
 }
 
-// The text of a code. An array and no Display, as with keys below: a piece of a page puts it down in one step.
+// The text of a code. An array and no Display: nothing is allocated, and a code key's text below ends in it.
 #[tactic(auto, unfolding(crate::specs::Codes::code_text))]
 pub fn write_code(code: u16) -> [u8; 5]
     ensures answer { result ≡ code_text code }

@@ -44,7 +44,7 @@ fn with_digit(n: u64, d: u8, base: u64, limit: u64) -> Option<u64>
 }
 
 // The number that a text writes in a base, up to a limit.
-// A loop with `?` and no try_fold, which says nothing of the digit at which it stops.
+// A loop with `?`: with try_fold the check leaves the answer open.
 #[tactic(auto, using(crate::proofs::Reading::turns))]
 pub(crate) fn number(s: &[u8], base: u64, limit: u64) -> Option<u64>
     ensures answer { result ≡ at_most limit (number_of base s.now) }
@@ -70,6 +70,7 @@ fn digit_byte(d: u64) -> u8
 }
 
 // Fills the bytes with the last digits of a number in a base.
+// By recursion from the last byte: of what a reversed `iter_mut` has written nothing is known.
 #[tactic(auto, using(crate::proofs::NumberTexts::written))]
 pub(crate) fn write_digits(out: &mut [u8], base: u64, number: u64)
     requires { (0 < base) × (base ≤ 36) }
