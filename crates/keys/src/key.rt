@@ -6,6 +6,8 @@ ghost use Rattle.std.specs.declared.cmp.Ordering.{Ordering};
 
 use std::cmp::Ordering;
 
+// A trait of its own beside the library's Ord: it states the order in words that can be read, which a derive leaves to
+// the order of fields, and equal holds of the same alone, which Ord does not ask.
 pub trait Key: Copy {
     // how the first of two keys stands to the second
     ghost order: { Self → Self → Ordering };

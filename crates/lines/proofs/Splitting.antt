@@ -1,9 +1,10 @@
 -- Cutting an input into lines, and joining them.
 -- A line without byte 10 in front of a byte 10 is the first line of what they begin; so cutting undoes joining, and there is only one way to cut.
-use Rattle.std.proofs.Common.{◌≡◌, ℕ, suc, ◌+◌, ◌<◌, ◌≤◌, ◌==◌, eqb, Some, None, Bool, true, false, cond, List, [], ◌∷◌, ◌++◌, length, take, drop, sym, refl, ap, ◌∙◌, subst, inl, inr, append_assoc, arith}
-use Rattle.std.proofs.lemmas.Bool.{cases_eq, cases_lt, lt-ltb, le-ltb, ne_eqb, cases_Bool}
+use Rattle.std.proofs.Common.{◌≡◌, ℕ, suc, ◌+◌, ◌<◌, ◌≤◌, ◌==◌, eqb, Some, None, Bool, true, false, cond, List, [], ◌∷◌, ◌++◌, length, take, drop, sym, refl, ap, ◌∙◌, subst, inl, inr, append_assoc, length-drop, arith}
+use Rattle.std.proofs.lemmas.Bool.{cases_eq, cases_lt, ne_eqb, cases_Bool}
 use native.Mathlib.Numerals.{unary_clauses}
-use Rattle.std.specs.List.{flat_map, position, position_or_len, AllByRecursion}
+use Rattle.std.proofs.lemmas.List.{drop_all, take_all}
+use Rattle.std.specs.List.{flat_map, after_first, before_first, position_or_len, AllByRecursion}
 use Rattle.page.specs.Texts.{ended}
 use Rattle.lines.specs.Inputs.{prepend, input_lines, closed, OneLine, LinesOf}
 
@@ -45,18 +46,19 @@ no_end (next ∷ s) byte h = elim (cases_Bool (eqb byte 10)) [
   | inr f ↦ rw f (ap (prepend byte) (no_end s next (omega (arith, rw f at h))))
 ]
 
-pub first_line : (s : List ℕ) (i : ℕ) → position (λ b. b == 10) s ≡ Some i → input_lines s ≡ take i s ∷ input_lines (drop (i + 1) s)
-first_line s i e = elim (cases_lt (end_of s) (length s)) [
-  | inl l ↦ let t = lt-ltb _ _ l in let same = simp t at e in let n : end_of s ≡ i = cc in rw (← n) (at_end_of s l)
-  | inr l ↦ let f = le-ltb _ _ l in let clash = rw f at e in cc
+-- as the code cuts: what stands before the first byte 10, and what stands behind it
+pub first_line : (s : List ℕ) → 0 < length s → input_lines s ≡ before_first (λ b. b == 10) s ∷ input_lines (after_first (λ b. b == 10) s)
+first_line [] h = absurd (omega arith)
+first_line (byte ∷ s) h = elim (cases_lt (end_of (byte ∷ s)) (length (byte ∷ s))) [
+  | inl l ↦ at_end_of (byte ∷ s) l
+  | inr l ↦
+      let t = take_all (end_of (byte ∷ s)) (byte ∷ s) l in
+      let d = drop_all (end_of (byte ∷ s) + 1) (byte ∷ s) (omega (arith, l)) in
+      no_end s byte l ∙ ap (λ ls. (byte ∷ s) ∷ ls) (sym (no_lines [] refl)) ∙ ap (λ line. line ∷ input_lines []) (sym t) ∙ ap (λ rest. take (end_of (byte ∷ s)) (byte ∷ s) ∷ input_lines rest) (sym d)
 ]
 
-pub only_line : (s : List ℕ) → position (λ b. b == 10) s ≡ None → 0 < length s → input_lines s ≡ s ∷ input_lines []
-only_line [] e h = absurd (omega arith)
-only_line (byte ∷ s) e h = elim (cases_lt (end_of (byte ∷ s)) (length (byte ∷ s))) [
-  | inl l ↦ let t = lt-ltb _ _ l in let clash = rw t at e in cc
-  | inr l ↦ no_end s byte l ∙ ap (λ ls. (byte ∷ s) ∷ ls) (sym (no_lines [] refl))
-]
+pub less_left : (s : List ℕ) → 0 < length s → length (after_first (λ b. b == 10) s) < length s
+less_left s h = let n = length-drop (end_of s + 1) s in omega (arith, n)
 
 -- cutting undoes joining
 pub cut_joined : (lines : List (List ℕ)) → AllByRecursion OneLine lines → input_lines (flat_map ended lines) ≡ lines

@@ -1,10 +1,11 @@
 // An input cut into its lines, one after the other.
 // Relies on nothing of the input: any bytes have lines, and the lines give the bytes again.
-ghost use Rattle.std.specs.Prelude.{◌≡◌, ℕ, ◌<◌, ◌==◌, List, ◌∷◌, length};
+ghost use Rattle.std.specs.Prelude.{◌≡◌, ℕ, ◌<◌, List, ◌∷◌, length};
 ghost use Rattle.lines.specs.Inputs.{LinesOf, TakesLine, input_lines};
 ghost use Rattle.std.specs.Option.{option_map};
 ghost use Rattle.std.specs.Iterator.{at_most};
-ghost use Rattle.std.specs.List.{position};
+
+use text::split_at_byte;
 
 // The lines of an input that are still to come. A type of its own and not the library's split_inclusive, whose type holds a closure and whose parts end in their byte 10.
 #[derive(Clone, Copy)]
@@ -41,21 +42,11 @@ impl<'a> Iterator for InputLines<'a> {
     }
 }
 
-// The place of the first line's end, or none.
-fn find_end(s: &[u8]) -> Option<usize>
-    ensures answer { result ≡ position (λ b. b == 10) s.now }
-{
-    s.iter().position(|b| *b == b'\n')
-}
-
 // The first line, and what stands behind it and its end.
-#[tactic(auto, using(crate::proofs::Splitting::first_line, crate::proofs::Splitting::only_line, std::proofs::lemmas::List::take_rest))]
+#[tactic(auto, using(crate::proofs::Splitting::first_line, crate::proofs::Splitting::less_left))]
 fn split_line(s: &[u8]) -> (&[u8], &[u8])
     ensures lines { 0 < length s.now → input_lines s.now ≡ result.0.now ∷ input_lines result.1.now }
     ensures shorter { 0 < length s.now → length result.1.now < length s.now }
 {
-    match find_end(s) {
-        Some(end) => (&s[..end], &s[end + 1..]),
-        None => (s, &[]),
-    }
+    split_at_byte(s, b'\n')
 }

@@ -45,13 +45,13 @@ impl Script {
     }
 
     fn report(&mut self) -> TicketId {
-        let slot = self.draw() as usize % MAX_REPORTS;
-        self.reports[slot].unwrap_or(NO_TICKET)
+        let drawn = self.draw();
+        pick(&self.reports, drawn).unwrap_or(NO_TICKET)
     }
 
     fn job(&mut self) -> TicketId {
-        let slot = self.draw() as usize % MAX_JOBS;
-        self.jobs[slot].unwrap_or(NO_TICKET)
+        let drawn = self.draw();
+        pick(&self.jobs, drawn).unwrap_or(NO_TICKET)
     }
 
     fn key(&mut self) -> CodeKey {
@@ -115,6 +115,12 @@ pub fn put_apart(job: TicketId, code: u16) -> BasicCall<CodeKey, u32> {
         },
         item: u32::from(code),
     }
+}
+
+// The ticket in the slot that a drawn number stands for.
+fn pick(tickets: &[Option<TicketId>], drawn: u32) -> Option<TicketId> {
+    let slot = (drawn as usize).checked_rem(tickets.len())?;
+    *tickets.get(slot)?
 }
 
 // Puts the new one in the place of the first that is the old one.

@@ -8,6 +8,7 @@ ghost use Rattle.text.specs.Refusals.{code};
 
 use crate::refusal::TextRefusal;
 
+// A trait of its own and no TryFrom, which could not be given to the keys, and would not tie what is read to what is written.
 pub trait FromText: Copy {
     // the text of a value
     ghost text: { Self → List ℕ };

@@ -16,7 +16,7 @@ mod vehicle_key;
 pub use code::{TroubleCode, write_code, write_code_key};
 pub use coolant::Coolant;
 pub use examples::text_examples_hold;
-pub use field::split_field;
+pub use field::{split_at_byte, split_field};
 pub use from_text::FromText;
 pub use record::{FaultRecord, VehicleRecord};
 pub use refusal::TextRefusal;
