@@ -1,6 +1,6 @@
 -- The least key beyond a given one, found by any means, is the one that `least` reads off the slots.
 -- `least` gives a least one (`least_is_least`, slot by slot), and where no key has two numbers there is only one (`least_once`).
-use Rattle.std.proofs.Common.{◌≡◌, ℕ, zero, suc, ◌⊎◌, List, [], ◌∷◌, Some, None, Option, Ordering, Less, Equal, Greater, sym, refl, subst, inl, inr, ⊎_elim, arith}
+use Rattle.std.proofs.Common.{◌≡◌, ℕ, zero, suc, ◌⊎◌, List, [], ◌∷◌, Some, None, Option, Ordering, Less, Equal, Greater, sym, refl, subst, inl, inr, ⊎_elim}
 use Rattle.keys.specs.Orders.{Total, ranked}
 use Rattle.index.proofs.Orders.{never_less, not_both_less}
 use Rattle.index.proofs.Ranked.{ranked_by}

@@ -1,5 +1,5 @@
 -- What is used of a total order again and again: a key is another or it is not, and less never goes both ways.
-use Rattle.std.proofs.Common.{◌≡◌, ℕ, ◌⊎◌, Ordering, Less, Equal, Greater, sym, refl, subst, inl, inr, arith}
+use Rattle.std.proofs.Common.{◌≡◌, ◌⊎◌, Ordering, Less, Equal, Greater, sym, refl, subst, inl, inr}
 use Rattle.keys.specs.Orders.{Total}
 
 module _ {K : Type 0} (order : K → K → Ordering) (total : Total order) where

@@ -1,5 +1,5 @@
 -- Cases on how one key stands to another, with what the case says in hand.
-use Rattle.std.proofs.Common.{◌≡◌, ℕ, Ordering, Less, Equal, Greater, refl, arith}
+use Rattle.std.proofs.Common.{◌≡◌, Ordering, Less, Equal, Greater, refl}
 use Rattle.keys.specs.Orders.{ranked}
 
 pub ranked_by : {X : Type 0} (P : X → Type 0) (o : Ordering) (a b c : X) → (o ≡ Less → P a) → (o ≡ Equal → P b) → (o ≡ Greater → P c) → P (ranked o a b c)
