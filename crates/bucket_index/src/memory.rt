@@ -1,5 +1,5 @@
 // The memory of the bucket index: the cell of number n lies at place n, and each bucket has a chain of the cells whose keys belong to it.
-// The steps of its calls, each on any memory; what makes a memory sound is an invariant of the index above.
+// The steps of its calls, between which the memory need not be sound; that it is sound is an invariant of the index above.
 ghost use Rattle.bucket_index.specs.Limits.{buckets, capacity};
 ghost use Rattle.std.specs.Prelude.{◌≡◌, length};
 
