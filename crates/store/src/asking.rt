@@ -29,23 +29,13 @@ pub fn ask<I: Index, R: Copy>(
         }
         BasicCall::Read { report, key } => Ok(Granted::Record(store.read(shelf, report, key)?)),
         BasicCall::Look { job, key } => Ok(Granted::Record(store.look(shelf, job, key)?)),
-        BasicCall::Put { job, key, item } => {
-            store.put(shelf, job, key, item)?;
-            Ok(Granted::Done)
-        }
-        BasicCall::Remove { job, key } => {
-            store.remove(job, key)?;
-            Ok(Granted::Done)
-        }
+        BasicCall::Put { job, key, item } => store
+            .put(shelf, job, key, item)
+            .and(Ok(Granted::Done)),
+        BasicCall::Remove { job, key } => store.remove(job, key).and(Ok(Granted::Done)),
         BasicCall::Commit { job } => Ok(Granted::Stamp(store.commit(job)?)),
-        BasicCall::Abort { job } => {
-            store.abort(job)?;
-            Ok(Granted::Done)
-        }
-        BasicCall::End { report } => {
-            store.end(report)?;
-            Ok(Granted::Done)
-        }
+        BasicCall::Abort { job } => store.abort(job).and(Ok(Granted::Done)),
+        BasicCall::End { report } => store.end(report).and(Ok(Granted::Done)),
         BasicCall::Age { limit } => {
             let Aged { looked, freed } = store.age(limit);
             Ok(Granted::Aged { looked, freed })

@@ -1,8 +1,8 @@
 -- Each arm is one call of the store: what the engine promises of it gives what is promised of the call, refused and granted.
 use Rattle.std.proofs.Common.{refl, ap}
 use Rattle.ledger.specs.declared.call.Call.TheVariants.{Basic}
-use Rattle.ledger.specs.declared.answer.Granted.TheVariants.{Report, Job, Record, Done, Stamp}
-use Rattle.store.proofs.Answered.{granted_answer, refused}
+use Rattle.ledger.specs.declared.answer.Granted.TheVariants.{Report, Job, Record, Stamp}
+use Rattle.store.proofs.Answered.{done_answer, granted_answer, refused}
 use Rattle.store.proofs.Called.{begin_report_promised, begin_job_promised, end_promised, commit_promised, abort_promised, age_promised, remove_promised, put_promised, look_promised, read_promised}
 use Rattle.store.proofs.asking.ask.Goals as goal
 
@@ -46,25 +46,15 @@ returns-in_ok-look-in-Look g c =
     look_promised g.met.I.Key.Key.total c.args.store.now c.look.new.self c.args.shelf.now c.in-Look.job c.in-Look.key _ _ c.look.result (ap Basic c.in-Look.is)
     (granted_answer (λ o. Record o) c.look.result _ c.in_ok-look-in-Look.was) c.look.ensures.answer c.look.ensures.index
 
-pub returns-in_err-put-in-Put : goal.returns-in_err-put-in-Put
-returns-in_err-put-in-Put g c =
+pub returns-in-Put : goal.returns-in-Put
+returns-in-Put g c =
     put_promised g.met.I.Key.Key.total c.args.store.now c.put.new.self c.args.shelf.now c.in-Put.job c.in-Put.key c.in-Put.item c.put.new.shelf _ _ c.put.result (ap Basic c.in-Put.is)
-    (refused (λ u. Done) c.put.result c.from_residual-in_err-put-in-Put.result _ c.in_err-put-in-Put.was c.from_residual-in_err-put-in-Put.ensures.1) c.put.ensures.answer
+    (done_answer c.put.result c.and.result c.and.ensures) c.put.ensures.answer
 
-pub returns-in_ok-put-in-Put : goal.returns-in_ok-put-in-Put
-returns-in_ok-put-in-Put g c =
-    put_promised g.met.I.Key.Key.total c.args.store.now c.put.new.self c.args.shelf.now c.in-Put.job c.in-Put.key c.in-Put.item c.put.new.shelf _ _ c.put.result (ap Basic c.in-Put.is)
-    (granted_answer (λ u. Done) c.put.result _ c.in_ok-put-in-Put.was) c.put.ensures.answer
-
-pub returns-in_err-remove-in-Remove : goal.returns-in_err-remove-in-Remove
-returns-in_err-remove-in-Remove g c =
+pub returns-in-Remove : goal.returns-in-Remove
+returns-in-Remove g c =
     remove_promised g.met.I.Key.Key.total c.args.store.now c.remove.new.self c.args.shelf.now c.in-Remove.job c.in-Remove.key _ _ c.remove.result (ap Basic c.in-Remove.is)
-    (refused (λ u. Done) c.remove.result c.from_residual-in_err-remove-in-Remove.result _ c.in_err-remove-in-Remove.was c.from_residual-in_err-remove-in-Remove.ensures.1) c.remove.ensures.answer
-
-pub returns-in_ok-remove-in-Remove : goal.returns-in_ok-remove-in-Remove
-returns-in_ok-remove-in-Remove g c =
-    remove_promised g.met.I.Key.Key.total c.args.store.now c.remove.new.self c.args.shelf.now c.in-Remove.job c.in-Remove.key _ _ c.remove.result (ap Basic c.in-Remove.is)
-    (granted_answer (λ u. Done) c.remove.result _ c.in_ok-remove-in-Remove.was) c.remove.ensures.answer
+    (done_answer c.remove.result c.and-in-Remove.result c.and-in-Remove.ensures) c.remove.ensures.answer
 
 pub returns-in_err-commit-in-Commit : goal.returns-in_err-commit-in-Commit
 returns-in_err-commit-in-Commit g c =
@@ -76,25 +66,15 @@ returns-in_ok-commit-in-Commit g c =
     commit_promised g.met.I.Key.Key.total c.args.store.now c.commit.new.self c.args.shelf.now c.in-Commit.job _ _ c.commit.result (ap Basic c.in-Commit.is)
     (granted_answer (λ s. Stamp s) c.commit.result _ c.in_ok-commit-in-Commit.was) c.commit.ensures.answer c.commit.ensures.after c.commit.ensures.unchanged
 
-pub returns-in_err-abort-in-Abort : goal.returns-in_err-abort-in-Abort
-returns-in_err-abort-in-Abort g c =
+pub returns-in-Abort : goal.returns-in-Abort
+returns-in-Abort g c =
     abort_promised g.met.I.Key.Key.total c.args.store.now c.abort.new.self c.args.shelf.now c.in-Abort.job _ _ c.abort.result (ap Basic c.in-Abort.is)
-    (refused (λ u. Done) c.abort.result c.from_residual-in_err-abort-in-Abort.result _ c.in_err-abort-in-Abort.was c.from_residual-in_err-abort-in-Abort.ensures.1) c.abort.ensures.answer c.abort.ensures.after c.abort.ensures.unchanged
+    (done_answer c.abort.result c.and-in-Abort.result c.and-in-Abort.ensures) c.abort.ensures.answer c.abort.ensures.after c.abort.ensures.unchanged
 
-pub returns-in_ok-abort-in-Abort : goal.returns-in_ok-abort-in-Abort
-returns-in_ok-abort-in-Abort g c =
-    abort_promised g.met.I.Key.Key.total c.args.store.now c.abort.new.self c.args.shelf.now c.in-Abort.job _ _ c.abort.result (ap Basic c.in-Abort.is)
-    (granted_answer (λ u. Done) c.abort.result _ c.in_ok-abort-in-Abort.was) c.abort.ensures.answer c.abort.ensures.after c.abort.ensures.unchanged
-
-pub returns-in_err-end-in-End : goal.returns-in_err-end-in-End
-returns-in_err-end-in-End g c =
+pub returns-in-End : goal.returns-in-End
+returns-in-End g c =
     end_promised g.met.I.Key.Key.total c.args.store.now c.end.new.self c.args.shelf.now c.in-End.report _ _ c.end.result (ap Basic c.in-End.is)
-    (refused (λ u. Done) c.end.result c.from_residual-in_err-end-in-End.result _ c.in_err-end-in-End.was c.from_residual-in_err-end-in-End.ensures.1) c.end.ensures.answer c.end.ensures.after c.end.ensures.index
-
-pub returns-in_ok-end-in-End : goal.returns-in_ok-end-in-End
-returns-in_ok-end-in-End g c =
-    end_promised g.met.I.Key.Key.total c.args.store.now c.end.new.self c.args.shelf.now c.in-End.report _ _ c.end.result (ap Basic c.in-End.is)
-    (granted_answer (λ u. Done) c.end.result _ c.in_ok-end-in-End.was) c.end.ensures.answer c.end.ensures.after c.end.ensures.index
+    (done_answer c.end.result c.and-in-End.result c.and-in-End.ensures) c.end.ensures.answer c.end.ensures.after c.end.ensures.index
 
 pub returns-in-Age : goal.returns-in-Age
 returns-in-Age g c =
