@@ -2,7 +2,7 @@
 -- A new memory has no key, so every chain is empty and holds what its bucket has. Add and discard change one slot: the chains are
 -- kept by what proofs/Buckets shows, and that keys stay apart and the count right by the laws of slots; a count that is right is at
 -- most the capacity, so that it never reaches the end of its type.
-use Rattle.std.proofs.Common.{◌≡◌, ℕ, ◌+◌, ◌-◌, ◌<◌, Bool, List, length, get_or, set, replicate, Some, None, Option, sym, ap, ◌∙◌, subst, arith}
+use Rattle.std.proofs.Common.{◌≡◌, ℕ, ◌+◌, ◌-◌, ◌^◌, ◌<◌, min, Bool, List, length, get_or, set, replicate, Some, None, Option, sym, ap, ◌∙◌, subst, arith}
 use lib.LanesLaws.{map-replicate}
 use Rattle.keys.specs.declared.code.CodeKey.{CodeKey}
 use Rattle.index.specs.Slots.{Apart, Maps, count_of, empty, number_of}
@@ -67,14 +67,14 @@ module _ (heads : List (Option ℕ)) (cells : List Cell) (key : CodeKey) (wide :
 
   -- Add and discard.
 
-  pub linked_sound : (count n : ℕ) → slice_get (keys_in cells) n ≡ Some None → None ≡ number_of code_order (keys_in cells) key → Sound heads cells count →
-      Sound (set heads (bucket_of key) (Some n)) (set cells n (record { key = Some key; next = get_or heads (bucket_of key) None })) (count + 1)
-  linked_sound count n free none' s =
+  pub linked_sound : length cells ≡ capacity → (count n : ℕ) → slice_get (keys_in cells) n ≡ Some None → None ≡ number_of code_order (keys_in cells) key → Sound heads cells count →
+      Sound (set heads (bucket_of key) (Some n)) (set cells n (record { key = Some key; next = get_or heads (bucket_of key) None })) (min (count + 1) (2 ^ 64 - 1))
+  linked_sound room count n free none' s =
       let new = number_new code_order code_total (keys_in cells) key s.apart none' in
       record {
         chains = chained_linked heads cells key n _ s.chains head_there free new;
         apart = subst Apart (sym (keys_set cells n _)) (set_apart (keys_in cells) n key free new s.apart);
-        counted = rw (keys_set cells n (record { key = Some key; next = get_or heads (bucket_of key) None })) (omega (arith, s.counted, count_more (keys_in cells) n key free));
+        counted = rw (keys_set cells n (record { key = Some key; next = get_or heads (bucket_of key) None })) (omega (arith, s.counted, count_more (keys_in cells) n key free, count_room heads cells count n key room free s));
       }
 
   pub unlinked_sound : (Answers : Cell → Bool → Type 0) (count n : ℕ) (cell : Cell) (previous : Option ℕ) → Sought Answers cells (get_or heads (bucket_of key) None) previous →

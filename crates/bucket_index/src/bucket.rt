@@ -10,7 +10,7 @@ use keys::CodeKey;
 pub struct BucketIndex {
     memory: Memory,
     // each bucket's chain holds its keys, no key has two numbers, and the count is right
-    ghost sound: { ∥ Sound memory.heads memory.cells memory.count ∥₁ },
+    pub ghost sound: { ∥ Sound memory.heads memory.cells memory.count ∥₁ },
 }
 
 impl BucketIndex {
@@ -21,6 +21,7 @@ impl BucketIndex {
 
     // An index without a key.
     pub fn new() -> BucketIndex
+        ensures kept { Sound result.memory.heads result.memory.cells result.memory.count }
         ensures answer { keys_of result ≡ empty capacity }
     {
         BucketIndex {
@@ -30,13 +31,22 @@ impl BucketIndex {
 }
 
 impl Index for BucketIndex {
+    ghost use Rattle.bucket_index.specs.Chains.{code_order};
     ghost use Rattle.bucket_index.specs.Slots.{keys_of};
+    ghost use Rattle.index.specs.Refusals.{add_code, discard_code};
+    ghost use Rattle.index.specs.Slots.{add_answer, added, discard_answer, discarded, empty};
+    ghost use Rattle.keys.specs.Refusals.{told};
+    ghost use Rattle.std.specs.Prelude.{◌≡◌, length};
 
     type Key = CodeKey;
 
     ghost slots = { keys_of };
 
-    fn emptied(self) -> BucketIndex {
+    // Sound with a chain for each bucket that can be told, beside what every index promises; so are the two changes below.
+    fn emptied(self) -> BucketIndex
+        ensures answer { keys_of result ≡ empty (length (keys_of self)) }
+        ensures kept { Sound result.memory.heads result.memory.cells result.memory.count }
+    {
         BucketIndex::new()
     }
 
@@ -54,7 +64,11 @@ impl Index for BucketIndex {
             .map(usize::from)
     }
 
-    fn add(&mut self, key: CodeKey, number: usize) -> Result<(), AddRefusal> {
+    fn add(&mut self, key: CodeKey, number: usize) -> Result<(), AddRefusal>
+        ensures answer { told add_code result ≡ add_answer code_order (keys_of self.old) key number }
+        ensures after { keys_of self.new ≡ added code_order (keys_of self.old) key number }
+        ensures kept { Sound self.old.memory.heads self.old.memory.cells self.old.memory.count → Sound self.new.memory.heads self.new.memory.cells self.new.memory.count }
+    {
         let cell = self.memory.cell(number).ok_or(AddRefusal::NumberTooHigh)?;
         if cell.key.is_some() {
             return Err(AddRefusal::NumberInUse);
@@ -66,7 +80,11 @@ impl Index for BucketIndex {
         Ok(())
     }
 
-    fn discard(&mut self, number: usize) -> Result<(), DiscardRefusal> {
+    fn discard(&mut self, number: usize) -> Result<(), DiscardRefusal>
+        ensures answer { told discard_code result ≡ discard_answer (keys_of self.old) number }
+        ensures after { keys_of self.new ≡ discarded (keys_of self.old) number }
+        ensures kept { Sound self.old.memory.heads self.old.memory.cells self.old.memory.count → Sound self.new.memory.heads self.new.memory.cells self.new.memory.count }
+    {
         let cell = self.memory.cell(number).ok_or(DiscardRefusal::NumberFree)?;
         let key = cell.key.ok_or(DiscardRefusal::NumberFree)?;
         let previous = self.memory.seek(key, |cell| cell.leads_to(number));

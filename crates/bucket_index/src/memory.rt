@@ -28,7 +28,7 @@ impl Memory {
     ghost use Rattle.bucket_index.specs.Buckets.{bucket_of};
     ghost use Rattle.bucket_index.specs.Chains.{Sought, free_cell, unlinked_cells, unlinked_heads};
     ghost use Rattle.std.specs.List.{slice_get};
-    ghost use Rattle.std.specs.Prelude.{◌+◌, ◌-◌, ◌<◌, replicate, Some, None, IfSome, slice_index_or, slice_set};
+    ghost use Rattle.std.specs.Prelude.{◌+◌, ◌-◌, ◌^◌, ◌<◌, min, replicate, Some, None, slice_index_or, slice_set};
 
     // The memory of an index without a key.
     pub(crate) fn blank() -> Memory
@@ -74,11 +74,10 @@ impl Memory {
 
     // Puts the cell of the number, with the key, before the others of the key's bucket.
     pub(crate) fn link(&mut self, key: CodeKey, number: usize)
-        requires within { number < capacity }
-        requires room { self.old.count < capacity }
+        requires { number < capacity }
         ensures heads { self.new.heads ≡ slice_set self.old.heads (bucket_of key) (Some number) }
         ensures cells { self.new.cells ≡ slice_set self.old.cells number (record { key = Some key; next = slice_index_or self.old.heads (bucket_of key) None }) }
-        ensures count { self.new.count ≡ self.old.count + 1 }
+        ensures count { self.new.count ≡ min (self.old.count + 1) (2 ^ 64 - 1) }
     {
         let bucket = Memory::bucket_of(key);
         let next = self.heads[bucket];
@@ -88,31 +87,34 @@ impl Memory {
         };
         // a cast, since the number is below the capacity
         self.heads[bucket] = Some(number as u16);
-        self.count += 1;
+        self.count = self.count.saturating_add(1);
     }
 
     // Lets the link that led to a cell of the key's bucket lead to the next one: the link of the previous cell, or the head.
     pub(crate) fn unlink(&mut self, key: CodeKey, previous: Link, next: Link)
-        requires { IfSome previous (λ number. number < capacity) }
         ensures heads { self.new.heads ≡ unlinked_heads previous self.old.heads (bucket_of key) next }
         ensures cells { self.new.cells ≡ unlinked_cells previous self.old.cells next }
         ensures count { self.new.count ≡ self.old.count }
     {
         match previous {
             None => self.heads[Memory::bucket_of(key)] = next,
-            Some(number) => self.cells[usize::from(number)].next = next,
+            Some(number) => {
+                let number = usize::from(number);
+                if number < CAPACITY {
+                    self.cells[number].next = next;
+                }
+            }
         }
     }
 
     // Frees the cell of the number.
     pub(crate) fn free(&mut self, number: usize)
-        requires within { number < capacity }
-        requires counted { 0 < self.old.count }
+        requires { number < capacity }
         ensures heads { self.new.heads ≡ self.old.heads }
         ensures cells { self.new.cells ≡ slice_set self.old.cells number free_cell }
         ensures count { self.new.count ≡ self.old.count - 1 }
     {
         self.cells[number] = FREE;
-        self.count -= 1;
+        self.count = self.count.saturating_sub(1);
     }
 }

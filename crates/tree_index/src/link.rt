@@ -28,7 +28,7 @@ impl Side {
     }
 }
 
-// The number of the node that it leads to, or none. In two bytes, so that a node is small.
+// The number of the node that it leads to, or none. A number of two bytes beside its tag, so that a node is small.
 pub type Link = Option<u16>;
 
 // The links of a node to its children.

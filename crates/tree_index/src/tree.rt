@@ -1,7 +1,7 @@
 // SearchTree as an index: the caller's nodes and the root of the tree in them.
 // That the nodes are sound is an invariant of the type, so what is promised has no premise.
 ghost use Rattle.std.specs.Prelude.{◌≡◌, ◌≤◌, min, length, Some, None, slice_set};
-ghost use Rattle.index.specs.Slots.{Maps, empty};
+ghost use Rattle.index.specs.Slots.{Maps, empty, number_of};
 ghost use Rattle.std.specs.List.{slice_get};
 ghost use Rattle.tree_index.specs.Layouts.{Addable, Discardable, Sound};
 ghost use Rattle.tree_index.specs.Links.{max_keys};
@@ -24,12 +24,13 @@ pub struct SearchTree<'a, K: Key> {
     nodes: &'a mut [Node<K>],
     root: Root,
     // a tree in order lies at the root and holds every key that has a number, and the root has their count; which tree, is not told
-    ghost sound: { ∥ Sound K.Key.order nodes.now root ∥₁ },
+    pub ghost sound: { ∥ Sound K.Key.order nodes.now root ∥₁ },
 }
 
 impl<'a, K: Key> SearchTree<'a, K> {
     // An empty tree in the nodes, or in the first of them where there are more than a tree uses, whatever they hold.
     pub fn new(nodes: &'a mut [Node<K>]) -> SearchTree<'a, K>
+        ensures kept { Sound K.Key.order result.nodes.now result.root }
         ensures answer { slots_in result.nodes.now ≡ empty (length (slots_in nodes.old)) }
         ensures capacity { length (slots_in result.nodes.now) ≡ min (length nodes.old) max_keys }
     {
@@ -51,11 +52,19 @@ impl<'a, K: Key> SearchTree<'a, K> {
 }
 
 impl<'a, K: Key> Index for SearchTree<'a, K> {
+    ghost use Rattle.index.specs.Refusals.{add_code, discard_code};
+    ghost use Rattle.index.specs.Slots.{add_answer, added, discard_answer, discarded};
+    ghost use Rattle.keys.specs.Refusals.{told};
+
     type Key = K;
 
     ghost slots = { λ s. slots_in s.nodes.now };
 
-    fn emptied(self) -> SearchTree<'a, K> {
+    // Sound with a tree that can be told, beside what every index promises; so are the two changes below.
+    fn emptied(self) -> SearchTree<'a, K>
+        ensures answer { slots_in result.nodes.now ≡ empty (length (slots_in self.entry.nodes.now)) }
+        ensures kept { Sound K.Key.order result.nodes.now result.root }
+    {
         let SearchTree { nodes, .. } = self;
         SearchTree::new(nodes)
     }
@@ -79,7 +88,11 @@ impl<'a, K: Key> Index for SearchTree<'a, K> {
         None
     }
 
-    fn add(&mut self, key: K, number: usize) -> Result<(), AddRefusal> {
+    fn add(&mut self, key: K, number: usize) -> Result<(), AddRefusal>
+        ensures answer { told add_code result ≡ add_answer K.Key.order (slots_in self.old.nodes.now) key number }
+        ensures after { slots_in self.new.nodes.now ≡ added K.Key.order (slots_in self.old.nodes.now) key number }
+        ensures kept { Sound K.Key.order self.old.nodes.now self.old.root → Sound K.Key.order self.new.nodes.now self.new.root }
+    {
         let slot = self.key_of(number).ok_or(AddRefusal::NumberTooHigh)?;
         if slot.is_some() {
             return Err(AddRefusal::NumberInUse);
@@ -92,7 +105,11 @@ impl<'a, K: Key> Index for SearchTree<'a, K> {
         Ok(())
     }
 
-    fn discard(&mut self, number: usize) -> Result<(), DiscardRefusal> {
+    fn discard(&mut self, number: usize) -> Result<(), DiscardRefusal>
+        ensures answer { told discard_code result ≡ discard_answer (slots_in self.old.nodes.now) number }
+        ensures after { slots_in self.new.nodes.now ≡ discarded (slots_in self.old.nodes.now) number }
+        ensures kept { Sound K.Key.order self.old.nodes.now self.old.root → Sound K.Key.order self.new.nodes.now self.new.root }
+    {
         let Some(Some(key)) = self.key_of(number) else {
             return Err(DiscardRefusal::NumberFree);
         };
@@ -108,9 +125,13 @@ impl<'a, K: Key> Index for SearchTree<'a, K> {
 fn link<K: Key>(nodes: &mut [Node<K>], root: Root, key: K, number: usize) -> Root
     ensures after { Addable K.Key.order nodes.old root key number → slots_in nodes.new ≡ slice_set (slots_in nodes.old) number (Some key) }
     ensures kept { Addable K.Key.order nodes.old root key number → ∥ Sound K.Key.order nodes.new result ∥₁ }
+    ensures tree { Sound K.Key.order nodes.old root → slice_get (slots_in nodes.old) number ≡ Some None → None ≡ number_of K.Key.order (slots_in nodes.old) key → Sound K.Key.order nodes.new result }
 {
+    let Ok(new) = u16::try_from(number) else {
+        // no tree has such a number
+        return root;
+    };
     let depth = nodes.len();
-    let new = u16::try_from(number).ok();
     put(nodes, number, Some(key));
     root.with_more(insert(nodes, root.link, key, new, depth))
 }

@@ -16,6 +16,11 @@ cleared before after capacity node is_capacity is_node filled =
     let used : length (take capacity before) ≡ length (slots_in before) = omega (arith, length-take capacity before, length_slots before) in
     rw (filled, used, is_node)
 
+pub returns-clause-kept : goal.returns-clause-kept
+returns-clause-kept g c =
+    empty_sound g.K.Key.order g.met.K.Key.total _ _
+    (cleared c.args.nodes.now _ _ _ c.used-capacity.ensures.answer c.new.ensures.answer (c.fill.ensures.after (λ y is. grind (arith, common_steps)))) (omega (arith, length_slots c.args.nodes.now))
+
 pub invariant_of-result : goal.invariant_of-result
 invariant_of-result g c =
     record {
