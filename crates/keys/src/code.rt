@@ -20,6 +20,9 @@ impl Key for CodeKey {
     ghost total = { Prim.search rules };
 
     fn compare(self, other: CodeKey) -> Ordering {
-        self.cmp(&other)
+        // part by part: the derived `cmp` compares the codes also where the units decide
+        self.unit
+            .cmp(&other.unit)
+            .then_with(|| self.code.cmp(&other.code))
     }
 }

@@ -13,6 +13,9 @@ impl Key for VehicleKey {
     ghost total = { vehicles_ordered };
 
     fn compare(self, other: VehicleKey) -> Ordering {
-        self.cmp(&other)
+        // part by part: the derived `cmp` compares the second numbers also where the first decide
+        self.first
+            .cmp(&other.first)
+            .then_with(|| self.second.cmp(&other.second))
     }
 }

@@ -61,7 +61,8 @@ fn ticket_key_of(fields: &[u8]) -> Option<(u32, CodeKey)>
     ensures answer { result ≡ ticket_key_of fields.now }
 {
     let (ticket, key) = split_field(fields);
-    u32::from_text(ticket).zip(CodeKey::from_text(key))
+    // by `?` and no `zip`, which would read the key also where the ticket is none
+    Some((u32::from_text(ticket)?, CodeKey::from_text(key)?))
 }
 
 // A walk to the first key, or to the first one after a key.

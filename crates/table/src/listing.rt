@@ -42,10 +42,9 @@ impl<T: Ticketed, const LIMIT: usize> OpenList<T, LIMIT> {
     pub fn find(&self, ticket: u32) -> Option<T>
         ensures answer { result ≡ with_ticket T.Ticketed.number ticket self.now.items.items }
     {
-        self.items
-            .iter()
-            .find(|item| item.ticket() == ticket)
-            .copied()
+        // by position and index: an item that `copied` hands on is copied at once, also where it is refused and not used
+        let i = self.position(ticket)?;
+        Some(self.items[i])
     }
 
     // Takes out the item with the ticket.

@@ -26,6 +26,8 @@ fn is_unstamped<K: Key>(place: Place<K>) -> bool
 
 impl<K: Key> Table<K> {
     // The place of the record that the job finds at the key: its own record, none for its own mark, else the current version.
+    // inlined, so that a look copies its row only once its ticket, shelf and key have passed
+    #[inline(always)]
     pub fn sees(&self, row: Row, key: K) -> Option<usize>
         ensures answer { Sees K.Key.order self.now.places.items key (draft_at K.Key.order self.now.places.items key row) result }
     {

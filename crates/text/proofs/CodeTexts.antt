@@ -1,6 +1,8 @@
 -- Codes and code keys as text: what is read is the value's own text, and the text of every value reads back.
 -- The letter and the hexadecimal digits are each read back by themselves; a code is put together from its top two bits and its other fourteen.
-use Rattle.std.proofs.Common.{◌≡◌, ℕ, zero, suc, ◌+◌, ◌*◌, ◌/◌, ◌%◌, ◌<◌, ◌≤◌, true, not, ◌&&◌, eqb, List, [], ◌∷◌, ◌++◌, length, get_or, take, drop, Some, sym, refl, ap, ◌∙◌, append_assoc, arith, length-append, length-drop, take-append-drop, length-take}
+use Rattle.std.proofs.Common.{◌≡◌, ℕ, zero, suc, ◌+◌, ◌*◌, ◌/◌, ◌%◌, ◌<◌, ◌≤◌, Bool, true, false, cond, not, ◌&&◌, eqb, ◌==◌, List, [], ◌∷◌, ◌++◌, length, get_or, take, drop, Option, Some, None, sym, refl, ap, ◌∙◌, append_assoc, arith, length-append, length-drop, take-append-drop, length-take}
+use Rattle.std.specs.Option.{option_map, option_zip}
+use Rattle.std.specs.Prelude.{slice_index}
 use Rattle.std.proofs.lemmas.List.{take_at, drop_at, drop_more, get_or_at}
 use Rattle.std.proofs.lemmas.Bool.{and_parts, and_from, eqb-true, eq-eqb}
 use Rattle.std.proofs.lemmas.Bool.Decides.{nat_tests}
@@ -106,6 +108,16 @@ own_code_key = record {
 -- four digits never pass the limit at which a unit is read
 pub unit_read : (s : List ℕ) → 4 ≤ length s → at_most 65535 (number_of 16 (take 4 s)) ≡ number_of 16 (take 4 s)
 unit_read s h = within_limit 16 4 65535 (take 4 s) _ (length-take 4 s ∙ omega arith) (omega arith) refl
+
+-- a text that ends in no code's is no code key's, whatever stands before the colon
+pub no_code : (s : List ℕ) → code_of (drop 5 s) ≡ None → code_key_of s ≡ None
+unfolding code_key_of
+no_code s e = rw e (go (length s == 10 && slice_index s 4 == 58) (number_of 16 (take 4 s)))
+  where
+    go : (b : Bool) (unit : Option ℕ) → cond b (option_map {U = CodeKey} (λ key. record { unit = key.0; code = key.1 }) (option_zip unit None)) None ≡ None
+    go true None = refl
+    go true (Some n) = refl
+    go false unit = refl
 
 -- a text with a code behind its first five bytes has a code key's length
 pub key_length : (s : List ℕ) (v : ℕ) → code_of (drop 5 s) ≡ Some v → length s ≡ 10

@@ -1,20 +1,23 @@
 -- Vehicle keys as text: what is read is the key's own text, and the text of every key reads back.
 -- Digits that were read are those of vehicle characters, so their numbers are spelled, which is what a key asks for;
 -- and the digits of spelled numbers stand for themselves, so they read back.
-use Rattle.std.proofs.Common.{◌≡◌, ℕ, ◌/◌, ◌%◌, ◌<◌, Bool, true, false, cond, eqb, List, ◌++◌, length, take, drop, Some, None, Option, Result, sym, refl, ap, ◌∙◌, arith, length-append, length-drop, take-append-drop, length-take, MatchResult}
+use Rattle.std.proofs.Common.{◌≡◌, ℕ, ◌/◌, ◌%◌, ◌<◌, Bool, true, false, cond, eqb, List, ◌++◌, length, take, drop, Some, None, Option, Result, Ok, Err, sym, refl, ap, ◌∙◌, arith, length-append, length-drop, take-append-drop, length-take, MatchResult}
 use lib.Arith.{digits_div, digits_mod}
 use Rattle.std.proofs.lemmas.List.{drop_at, take_at}
 use Rattle.std.proofs.lemmas.Bool.{and_from, and_parts, cond-true, false≢true, eq-eqb, eqb-true}
 use Rattle.std.proofs.lemmas.Bool.Decides.{nat_tests}
 use Rattle.std.specs.Option.{option_map, ok_or}
+use Rattle.std.specs.Result.{result_map_both}
 use Rattle.std.proofs.lemmas.Option.{none-some}
+use Rattle.keys.specs.Refusals.{plain, told}
 use Rattle.keys.specs.VehicleOrder.{same_vehicle}
 use Rattle.keys.specs.VehicleDigits.{spelled, vehicle_digit, vehicle_digits}
 use Rattle.keys.specs.Vehicles.{numbers}
 use Rattle.keys.specs.declared.vehicle.VehicleKey.{VehicleKey}
 use Rattle.text.specs.Digits.{digit_of, digit_byte, number_of, at_most, last_digits}
 use Rattle.text.specs.Own.{Own}
-use Rattle.text.specs.VehicleKeys.{key_of, key_with, vehicle_key_of, vehicle_key_text, vehicle_of}
+use Rattle.text.specs.Refusals.{code}
+use Rattle.text.specs.VehicleKeys.{key_of, key_with, numbered, vehicle_key_of, vehicle_key_text, vehicle_of}
 use Rattle.text.specs.declared.refusal.TextRefusal.{TextRefusal}
 use Rattle.text.specs.declared.refusal.TextRefusal.TheVariants.{Malformed}
 use Rattle.text.proofs.NumberTexts.{by_last_digit, digits_back, length_last_digits, own_digits, some_if, within_limit}
@@ -120,6 +123,23 @@ own_vehicle_key = record {
 
 -- what the reader of keys is proved by
 pub ruleset key_laws = (own_vehicle_key, first_read, second_read, pair_spelled)
+
+-- a result of an option is told by the numbers that the option has
+pub told_by_numbers : (o : Option VehicleKey) (r : Result VehicleKey TextRefusal) (p : Option (ℕ × ℕ)) → r ≡ ok_or o Malformed → option_map numbers o ≡ p → numbered r ≡ ok_or p (plain 12)
+told_by_numbers None r p e f = rw (e, sym f) refl
+told_by_numbers (Some key) r p e f = rw (e, sym f) refl
+
+-- what a text reads as is told by the numbers that it gives
+pub read_numbers : (s : List ℕ) (r : Result VehicleKey TextRefusal) → told code r ≡ ok_or (vehicle_of s) (plain 12) → numbered r ≡ ok_or (vehicle_key_of s) (plain 12)
+read_numbers s r e = by_told r ∙ ap (result_map_both numbers (λ c. c)) e ∙ mapped (vehicle_of s) ∙ ap (λ p. ok_or p (plain 12)) (vehicle_numbers s)
+  where
+    by_told : (r : Result VehicleKey TextRefusal) → numbered r ≡ result_map_both numbers (λ c. c) (told code r)
+    by_told (Ok key) = refl
+    by_told (Err why) = refl
+
+    mapped : (o : Option VehicleKey) → result_map_both numbers (λ c. c) (ok_or o (plain 12)) ≡ ok_or (option_map numbers o) (plain 12)
+    mapped None = refl
+    mapped (Some key) = refl
 
 -- just the numbers that some text gives are granted
 pub granted_by_texts : (first second : ℕ) (o : Option VehicleKey) (r : Result VehicleKey TextRefusal) → r ≡ ok_or o Malformed →

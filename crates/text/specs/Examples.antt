@@ -1,5 +1,5 @@
 -- Worked examples of the texts, each with what a reader tells of it.
--- They are about the definitions, to which each reader's answer is equal.
+-- They are about the definitions by which each reader answers.
 use Rattle.std.specs.Prelude.{◌≡◌, Ok, Err, codes}
 use Rattle.std.specs.Option.{ok_or}
 use Rattle.keys.specs.Refusals.{plain}

@@ -89,8 +89,9 @@ impl FromText for CodeKey {
         let (unit, [COLON, code @ ..]) = s.split_first_chunk::<UNIT_DIGITS>()? else {
             return None;
         };
-        let unit = number(unit, BASE, u16::MAX.into())? as u16;
+        // the code first: it tells by its length alone whether the whole is of the right one
         let code = TroubleCode::from_text(code)?;
+        let unit = number(unit, BASE, u16::MAX.into())? as u16;
         Some(CodeKey {
             unit,
             code: code.bits,

@@ -1,11 +1,18 @@
-use Rattle.std.proofs.Common.{eqb, rules, tests, sym, ap, ◌∙◌}
-use Rattle.std.proofs.lemmas.Iterator.{YieldsList-from_slice}
-use Rattle.std.proofs.lemmas.Iterator.Search.{find_from_yields_List}
-use Rattle.table.specs.Lists.{with_ticket}
-use Rattle.table.proofs.Tickets.{found_is}
+use Rattle.std.proofs.Common.{Some, sym, ap, ◌∙◌, arith}
+use Rattle.table.proofs.Tickets.{at_ticket, no_ticket}
 use Rattle.table.proofs.open_list.OpenList.find.Goals as goal
+
+pub returns-in_err-i : goal.returns-in_err-i
+returns-in_err-i g c =
+    let none = no_ticket g.T.Ticketed.number c.args.ticket c.args.self.now.items.items (sym c.in_err-i.ensures.answer) in
+    record { answer = c.from_residual.ensures ∙ sym none.found }
+
+pub index-requires : goal.index-requires
+index-requires g c =
+    let at = at_ticket g.T.Ticketed.number c.args.ticket c.args.self.now.items.items c.in_ok-i.i (sym c.in_ok-i.ensures.answer) in
+    omega (arith, at.within)
 
 pub returns : goal.returns
 returns g c =
-    let found = find_from_yields_List (λ x. eqb (g.T.Ticketed.number x) c.args.ticket) _ _ c.find.result c.find.ensures.ran (YieldsList-from_slice c.deref.result.now cc) (λ x b q k. search (rules, tests)) in
-    record { answer = c.copied.ensures ∙ (found ∙ (sym (found_is g.T.Ticketed.number c.args.ticket c.deref.result.now) ∙ ap (with_ticket g.T.Ticketed.number c.args.ticket) c.deref.ensures.value)) }
+    let at = at_ticket g.T.Ticketed.number c.args.ticket c.args.self.now.items.items c.in_ok-i.i (sym c.in_ok-i.ensures.answer) in
+    record { answer = ap Some c.index.ensures ∙ sym (at.found c.index.result.now) }
