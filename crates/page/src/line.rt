@@ -5,7 +5,7 @@ ghost use Rattle.page.specs.Pages.{Grown, SameGuard, Wrote, fit_answer, fitted, 
 ghost use Rattle.page.specs.Refusals.{code};
 ghost use Rattle.page.specs.Texts.{ended};
 ghost use Rattle.std.specs.Option.{unwrap_or};
-ghost use Rattle.std.specs.Prelude.{◌≡◌, ◌+◌, if◌then◌else◌, length, nat_le};
+ghost use Rattle.std.specs.Prelude.{◌≡◌, ◌+◌, None, if◌then◌else◌, length, nat_le};
 
 use crate::page::{Mark, Page};
 use crate::piece::{Piece, Then};
@@ -15,7 +15,7 @@ use crate::refusal::PageRefusal;
 pub struct OpenLine<'a> {
     bytes: &'a mut [u8],
     mark: &'a mut Mark,
-    // where the mark goes back to; none once the line is complete
+    // where the mark goes back to; none once the line is complete, or where whoever made it minds the mark
     back: Option<Mark>,
 }
 
@@ -35,6 +35,22 @@ impl Drop for OpenLine<'_> {
     }
 }
 
+impl<'a> OpenLine<'a> {
+    // A line over any bytes and mark, with nowhere for the mark to go back to: for whoever puts pieces and minds the mark himself.
+    pub fn over(bytes: &'a mut [u8], mark: &'a mut Mark) -> OpenLine<'a>
+        ensures bytes { result.bytes.now ≡ bytes.old }
+        ensures mark { result.mark.now ≡ mark.old }
+        ensures back { result.back ≡ None }
+        ensures memory { (result.bytes.ghost_name ≡ bytes.entry.ghost_name) × (result.mark.ghost_name ≡ mark.entry.ghost_name) }
+    {
+        OpenLine {
+            bytes,
+            mark,
+            back: None,
+        }
+    }
+}
+
 impl OpenLine<'_> {
     // Where so many bytes at the mark would end; none where they do not fit.
     fn end_of(&self, size: usize) -> Option<usize>
@@ -46,9 +62,9 @@ impl OpenLine<'_> {
             .filter(|end| *end <= self.bytes.len())
     }
 
-    // Puts bytes at the mark and moves the mark behind them.
+    // Puts bytes at the mark and moves the mark behind them: for pieces of other crates too, whose text no array holds.
     #[tactic(auto, using(std::proofs::lemmas::Slice::overwrites), unfolding(crate::specs::Pages::Wrote))]
-    pub(crate) fn put_bytes(&mut self, text: &[u8]) -> Result<(), PageRefusal>
+    pub fn put_bytes(&mut self, text: &[u8]) -> Result<(), PageRefusal>
         ensures wrote { Wrote (page_of self.old) text.now (page_of self.new) result }
         ensures guard { SameGuard self.old self.new }
     {
@@ -60,11 +76,11 @@ impl OpenLine<'_> {
 }
 
 impl Page<'_> {
-    // Writes a line, whole or not at all.
+    // Puts a piece at the mark, whole or not at all: with no byte 10 behind it, for whoever ends the line himself.
     #[tactic(auto, using(std::proofs::lemmas::Bool::Decides::nat_tests, std::proofs::lemmas::Result::err_from_is_err_and), unfolding(crate::specs::Pages::Wrote))]
-    pub fn write_line<P: Piece>(&mut self, piece: P) -> Result<(), PageRefusal>
-        ensures answer { told code result ≡ fit_answer self.old (ended (P.Piece.text piece)) }
-        ensures after { Grown self.old (fitted self.old (ended (P.Piece.text piece))) self.new }
+    pub fn put<P: Piece>(&mut self, piece: P) -> Result<(), PageRefusal>
+        ensures answer { told code result ≡ fit_answer self.old (P.Piece.text piece) }
+        ensures after { Grown self.old (fitted self.old (P.Piece.text piece)) self.new }
     {
         let start = self.mark;
         // the mark first: borrowed after the bytes, it is not known what the guard leaves of it
@@ -74,8 +90,16 @@ impl Page<'_> {
             mark,
             back: Some(start),
         };
-        Then(piece, *b"\n").put(&mut line)?;
+        piece.put(&mut line)?;
         line.back = None;
         Ok(())
+    }
+
+    // Writes a line, whole or not at all.
+    pub fn write_line<P: Piece>(&mut self, piece: P) -> Result<(), PageRefusal>
+        ensures answer { told code result ≡ fit_answer self.old (ended (P.Piece.text piece)) }
+        ensures after { Grown self.old (fitted self.old (ended (P.Piece.text piece))) self.new }
+    {
+        self.put(Then(piece, *b"\n"))
     }
 }
