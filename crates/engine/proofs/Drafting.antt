@@ -1,6 +1,6 @@
 -- The checks of a draft's place, as a call states them by its ticket and as the code makes them by the job's row.
-use Rattle.std.proofs.Common.{◌≡◌, ℕ, not, ◌&&◌, [], ◌∷◌, is_some, Some, None, Ordering}
-use Rattle.keys.specs.Refusals.{plain}
+use Rattle.std.proofs.Common.{◌≡◌, ℕ, not, ◌&&◌, [], ◌∷◌, is_some, Some, Option, Ordering}
+use Rattle.keys.specs.Refusals.{Code, plain}
 use Rattle.ledger.specs.Steps.{all_wanted}
 use Rattle.ledger.specs.Words.{when}
 use Rattle.ledger.specs.declared.call.TicketId.{TicketId}
@@ -14,12 +14,13 @@ use Rattle.table.specs.declared.row.Row.{Row}
 use Rattle.table.specs.Checks.{row_of}
 
 module _ {K : Type 0} (order : K → K → Ordering) (v : View K) (t : TicketId) (key : K) (row : Row) (found : open_job v t ≡ Some row) where
-  pub same_room : sent_back (when (not (is_some (entry_at order v.places key row)) && is_row_full row) (plain 9) ∷ when (not (is_some (draft_at order v.places key row)) && all_wanted v.reports v.places) (plain 10) ∷ []) ≡ None →
-      sent_back (row_left order v t key ∷ place_left order v t key ∷ []) ≡ None
-  same_room e = rw (row_found v t row found) e
+  pub same_room : (r : Option Code) →
+      sent_back (when (not (is_some (entry_at order v.places key row)) && is_row_full row) (plain 9) ∷ when (not (is_some (draft_at order v.places key row)) && all_wanted v.reports v.places) (plain 10) ∷ []) ≡ r →
+      sent_back (row_left order v t key ∷ place_left order v t key ∷ []) ≡ r
+  same_room r e = rw (row_found v t row found) e
 
-  pub same_there : when (not (record_by order v.places key (draft_at order v.places key row))) (plain 8) ≡ None → something_there order v t key ≡ None
-  same_there e = rw (row_found v t row found) e
+  pub same_there : (r : Option Code) → when (not (record_by order v.places key (draft_at order v.places key row))) (plain 8) ≡ r → something_there order v t key ≡ r
+  same_there r e = rw (row_found v t row found) e
 
   pub same_placed : (w : View K) (n : ℕ) → Placed order v w row key n → Placed order v w (row_of v t) key n
   same_placed w n placed = rw (row_found v t row found) placed

@@ -12,7 +12,7 @@ pub struct Store<I: Index> {
     pub(crate) index: I,
     pub(crate) table: Table<I::Key>,
     // the index agrees with the places
-    ghost indexed: { ∥ Agree (I.Index.slots index) table.places.items ∥₁ },
+    pub ghost indexed: { ∥ Agree (I.Index.slots index) table.places.items ∥₁ },
     // no more places than a walk has marks for
-    ghost few: { length table.places.items ≤ max_places },
+    pub ghost few: { length table.places.items ≤ max_places },
 }

@@ -9,7 +9,7 @@ use Rattle.ledger.specs.declared.call.Call.TheVariants.{Walk, Basic}
 use Rattle.ledger.specs.declared.call.BasicCall.TheVariants.{BeginReport, BeginJob, Look, Put, Remove, Commit, Abort}
 use Rattle.ledger.specs.Versions.{Version, finds_current}
 use Rattle.ledger.specs.Control.{Job, has_key, holding, jobs_but}
-use Rattle.ledger.specs.Calls.{Exchange, change, is_age, granted}
+use Rattle.ledger.specs.Calls.{Exchange, change, is_age, refusal, granted}
 use Rattle.ledger.specs.Ledger.{Ledger, noted, ledger}
 use Rattle.ledger.specs.Steps.{State, Summary, answered, Numbers, Run}
 use Rattle.ledger.proofs.Model.{met, versions_after, moved_on, next_model}
@@ -38,6 +38,10 @@ tickets_holding {K} order t k (j ∷ js) = go (eqb j.ticket t && not (has_key or
     go : (b : Bool) → tickets (holding order t k js) ≡ tickets js → (cond {A = Job K} b (record j { keys = j.keys ++ (k ∷ []) }) j).ticket ∷ tickets (holding order t k js) ≡ j.ticket ∷ tickets js
     go true e = ap (λ ts. j.ticket ∷ ts) e
     go false e = ap (λ ts. j.ticket ∷ ts) e
+
+-- a granted answer is none of the refusals
+pub answered_granted : {K R : Type 0} (order : K → K → Ordering) (b : Summary K R) (c : Call K R) → refusal {K = K} {R = R} (Ok (answered order b c)) ≡ None
+answered_granted order b c = refl
 
 module _ {K R : Type 0} (order : K → K → Ordering) (tot : Total order) where
   -- the same ledger, but for an equation of its jobs

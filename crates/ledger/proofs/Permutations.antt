@@ -1,7 +1,7 @@
 -- Lists with the same elements in any order, and what does not depend on the order: sums, what holds of each, filters.
 -- The places of a store hold the versions of the ledger in an order of their own; this is all that is needed to see past it.
 use Rattle.std.proofs.Common.{◌≡◌, ℕ, Bool, true, false, cond, not, List, [], ◌∷◌, ◌++◌, sum_by, Some, None, filter, Option, sym, refl, ap, ◌∙◌, subst, arith}
-use Rattle.std.specs.List.{cons_option, AllByRecursion}
+use Rattle.std.specs.List.{cons_option, flat_map, AllByRecursion}
 use Rattle.std.proofs.lemmas.List.{append-nil, append_assoc}
 use Rattle.std.proofs.lemmas.List.Sums.{sum_by-cons}
 use Rattle.ledger.specs.Words.{when, picked}
@@ -66,6 +66,14 @@ perm_sum f (swap {x} {y} {xs} {ys} p) =
     let i = perm_sum f p in
     omega (arith, sum_by-cons f x (y ∷ xs), sum_by-cons f y xs, sum_by-cons f y (x ∷ ys), sum_by-cons f x ys)
 perm_sum f (then p q) = perm_sum f p ∙ perm_sum f q
+
+pub perm_joined : {X Y : Type 0} (f : X → List Y) {xs ys : List X} → Perm xs ys → Perm (flat_map f xs) (flat_map f ys)
+perm_joined f none = none
+perm_joined f (skip {x} p) = perm_append_left (f x) (perm_joined f p)
+perm_joined f (swap {x} {y} {xs} {ys} p) =
+    then (perm_shift (f x) (f y) (flat_map f xs) (f y ++ flat_map f xs) (perm_refl (f y ++ flat_map f xs)))
+    (perm_append_left (f y) (perm_append_left (f x) (perm_joined f p)))
+perm_joined f (then p q) = then (perm_joined f p) (perm_joined f q)
 
 pub perm_picked : {X Y : Type 0} (g : X → Option Y) {xs ys : List X} → Perm xs ys → Perm (picked g xs) (picked g ys)
 perm_picked g none = none

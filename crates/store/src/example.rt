@@ -8,7 +8,8 @@ use engine::Store;
 use index::Index;
 use ledger::Refusal;
 
-// Why a report or a job did not come to its end.
+// Why a report or a job did not come to its end. It may be let go where no unspent ticket is in it.
+#[derive(Drop)]
 pub enum Failed<Kind> {
     NotBegun(Refusal),
     // its end was refused; the ticket is given back

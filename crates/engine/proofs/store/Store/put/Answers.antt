@@ -14,7 +14,7 @@ returns g c =
         passes (job_is_open v c.args.job c.in_ok-row.row found)
             (passes (passed _ _ _ c.in_ok-check_shelf.ensures.answer)
             (passes (passed _ _ _ c.in_ok-check_holder.ensures.answer)
-            (same_room g.I.Key.Key.order v c.args.job c.args.key c.in_ok-row.row found out.0))),
+            (same_room g.I.Key.Key.order v c.args.job c.args.key c.in_ok-row.row found _ out.0))),
         (
           c.in_ok-n.n,
           (

@@ -13,8 +13,8 @@ returns g c =
       answer = (
         passes (job_is_open v c.args.job c.in_ok-row.row found)
             (passes (passed _ _ _ c.in_ok-check_holder.ensures.answer)
-            (passes (same_there g.I.Key.Key.order v c.args.job c.args.key c.in_ok-row.row found (passed _ _ _ c.in_ok-check_there.ensures.answer))
-            (same_room g.I.Key.Key.order v c.args.job c.args.key c.in_ok-row.row found out.0))),
+            (passes (same_there g.I.Key.Key.order v c.args.job c.args.key c.in_ok-row.row found _ (passed _ _ _ c.in_ok-check_there.ensures.answer))
+            (same_room g.I.Key.Key.order v c.args.job c.args.key c.in_ok-row.row found _ out.0))),
         (
           c.in_ok-n.n,
           (
