@@ -34,11 +34,10 @@ fn try_out<S: Subject + Drop>(
     capacity: usize,
     script: &Script,
 ) -> io::Result<()> {
-    let mut replies = Vec::new(rt.alloc());
-    drive(rt.alloc(), &mut subject, capacity, script, &mut replies)?;
+    let mut tally = Tally::default();
+    drive(rt.alloc(), &mut subject, capacity, script, &mut tally)?;
     let mut subject = subject.anew();
-    drive(rt.alloc(), &mut subject, capacity, script, &mut replies)?;
-    let tally = Tally::of(&replies);
+    drive(rt.alloc(), &mut subject, capacity, script, &mut tally)?;
     println!(rt; "  {name}: {tally:?}")
 }
 
