@@ -92,10 +92,17 @@ impl FromText for CodeKey {
         // the code first: it tells by its length alone whether the whole is of the right one
         let code = TroubleCode::from_text(code)?;
         let unit = number(unit, BASE, u16::MAX.into())? as u16;
-        Some(CodeKey {
-            unit,
-            code: code.bits,
-        })
+        Some(code_key(unit, code))
+    }
+}
+
+// The key of a unit and a code.
+fn code_key(unit: u16, code: TroubleCode) -> CodeKey
+    ensures answer { result ≡ record { unit = unit; code = code.bits } }
+{
+    CodeKey {
+        unit,
+        code: code.bits,
     }
 }
 
