@@ -140,6 +140,7 @@ fn link<K: Key>(nodes: &mut [Node<K>], root: Root, key: K, number: usize) -> Roo
 fn unlink<K: Key>(nodes: &mut [Node<K>], root: Root, key: K, number: usize) -> Root
     ensures after { Discardable K.Key.order nodes.old root key number → slots_in nodes.new ≡ slice_set (slots_in nodes.old) number None }
     ensures kept { Discardable K.Key.order nodes.old root key number → ∥ Sound K.Key.order nodes.new result ∥₁ }
+    ensures tree { Sound K.Key.order nodes.old root → Maps (slots_in nodes.old) number key → Sound K.Key.order nodes.new result }
     ensures lower { (s : Sound K.Key.order nodes.old root) → Maps (slots_in nodes.old) number key → (left : Sound K.Key.order nodes.new result) × (height left.tree ≤ height s.tree) }
 {
     let depth = nodes.len();

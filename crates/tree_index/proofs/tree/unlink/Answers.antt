@@ -10,5 +10,6 @@ returns g c =
       after = λ d. ∥∥₁_elim d.sound (Coded-set (coded_list (coded_option g.row.K.coded)) _ _)
           (λ s. discarded_slots g.K.Key.order g.met.K.Key.total _ _ _ _ _ _ _ _ s d.has c.put.ensures.after c.remove-link.ensures.after c.with_less.ensures.answer);
       kept = λ d. ∥∥₁_map d.sound (λ s. (discarded_sound g.K.Key.order g.met.K.Key.total _ _ _ _ _ _ _ _ s d.has c.put.ensures.after c.remove-link.ensures.after c.with_less.ensures.answer).0);
+      tree = λ s has. (discarded_sound g.K.Key.order g.met.K.Key.total _ _ _ _ _ _ _ _ s has c.put.ensures.after c.remove-link.ensures.after c.with_less.ensures.answer).0;
       lower = λ s has. discarded_sound g.K.Key.order g.met.K.Key.total _ _ _ _ _ _ _ _ s has c.put.ensures.after c.remove-link.ensures.after c.with_less.ensures.answer;
     }
