@@ -76,11 +76,11 @@ impl OpenLine<'_> {
 }
 
 impl Page<'_> {
-    // Puts a piece at the mark, whole or not at all: with no byte 10 behind it, for whoever ends the line himself.
+    // Writes a line, whole or not at all.
     #[tactic(auto, using(std::proofs::lemmas::Bool::Decides::nat_tests, std::proofs::lemmas::Result::err_from_is_err_and), unfolding(crate::specs::Pages::Wrote))]
-    pub fn put<P: Piece>(&mut self, piece: P) -> Result<(), PageRefusal>
-        ensures answer { told code result ≡ fit_answer self.old (P.Piece.text piece) }
-        ensures after { Grown self.old (fitted self.old (P.Piece.text piece)) self.new }
+    pub fn write_line<P: Piece>(&mut self, piece: P) -> Result<(), PageRefusal>
+        ensures answer { told code result ≡ fit_answer self.old (ended (P.Piece.text piece)) }
+        ensures after { Grown self.old (fitted self.old (ended (P.Piece.text piece))) self.new }
     {
         let start = self.mark;
         // the mark first: borrowed after the bytes, it is not known what the guard leaves of it
@@ -90,16 +90,8 @@ impl Page<'_> {
             mark,
             back: Some(start),
         };
-        piece.put(&mut line)?;
+        Then(piece, *b"\n").put(&mut line)?;
         line.back = None;
         Ok(())
-    }
-
-    // Writes a line, whole or not at all.
-    pub fn write_line<P: Piece>(&mut self, piece: P) -> Result<(), PageRefusal>
-        ensures answer { told code result ≡ fit_answer self.old (ended (P.Piece.text piece)) }
-        ensures after { Grown self.old (fitted self.old (ended (P.Piece.text piece))) self.new }
-    {
-        self.put(Then(piece, *b"\n"))
     }
 }
