@@ -42,7 +42,7 @@ impl Index for BucketIndex {
 
     ghost slots = { keys_of };
 
-    // Sound with a chain for each bucket that can be told, beside what every index promises; so are the two changes below.
+    // `kept` says more than the type here and below: which chain each bucket has can be told, and not only that it has one.
     fn emptied(self) -> BucketIndex
         ensures answer { keys_of result ≡ empty (length (keys_of self)) }
         ensures kept { Sound result.memory.heads result.memory.cells result.memory.count }

@@ -60,7 +60,7 @@ impl<'a, K: Key> Index for SearchTree<'a, K> {
 
     ghost slots = { λ s. slots_in s.nodes.now };
 
-    // Sound with a tree that can be told, beside what every index promises; so are the two changes below.
+    // `kept` says more than the type here and below: which tree lies in the nodes can be told, and not only that there is one.
     fn emptied(self) -> SearchTree<'a, K>
         ensures answer { slots_in result.nodes.now ≡ empty (length (slots_in self.entry.nodes.now)) }
         ensures kept { Sound K.Key.order result.nodes.now result.root }
